@@ -1,0 +1,3 @@
+-- What the contracts say of an answer.
+pub mod Paper
+pub mod Answers

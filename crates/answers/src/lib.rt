@@ -1,0 +1,96 @@
+// What the calls answer: refusals, outcomes and reports by value.
+// specs/Answers.antt gives document 01's numbers for each case, and every contract speaks through it.
+// Rests on nothing. Document 01: "Refused for the input", and what an answer holds ("Iterative voting").
+ghost use mathlib.Core.Path.{_≡_};
+ghost use Rattle.answers.specs.Answers.{numberOf, placeOf, outcomeOf};
+
+// Why a call is refused. A refusal that has a place carries it.
+pub enum Refusal {
+    Sizes,
+    Length,
+    Entry(u16),
+    Weight(u16),
+    Overlap(u16),
+    Setting,
+    Buffer,
+    Sample(u16),
+    Spare,
+}
+
+// How decoding stands.
+pub enum Outcome {
+    Decoded,
+    Failed,
+    Working,
+}
+
+// What an accepted decoding call answers.
+pub struct Report {
+    pub outcome: Outcome,
+    pub rounds: u16,
+    pub failing: u16,
+    pub changed: u16,
+}
+
+// The answer of a decoding call.
+pub enum Answer {
+    Done(Report),
+    Refused(Refusal),
+}
+
+// The answer of a check.
+pub enum Checked {
+    Accepted,
+    Refused(Refusal),
+}
+
+// The answer of a count of failing checks.
+pub enum Counted {
+    Failing(u16),
+    Refused(Refusal),
+}
+
+// The refusal's number in document 01.
+pub fn number(f: Refusal) -> u16
+    ensures { λ r. ⌜ r ≡ numberOf f ⌝ }
+{
+    match f {
+        Refusal::Sizes => 1,
+        Refusal::Length => 2,
+        Refusal::Entry(_) => 3,
+        Refusal::Weight(_) => 4,
+        Refusal::Overlap(_) => 5,
+        Refusal::Setting => 6,
+        Refusal::Buffer => 7,
+        Refusal::Sample(_) => 8,
+        Refusal::Spare => 9,
+    }
+}
+
+// The refusal's place, 0 where it has none.
+pub fn place(f: Refusal) -> u16
+    ensures { λ r. ⌜ r ≡ placeOf f ⌝ }
+{
+    match f {
+        Refusal::Sizes => 0,
+        Refusal::Length => 0,
+        Refusal::Entry(i) => i,
+        Refusal::Weight(j) => j,
+        Refusal::Overlap(i) => i,
+        Refusal::Setting => 0,
+        Refusal::Buffer => 0,
+        Refusal::Sample(j) => j,
+        Refusal::Spare => 0,
+    }
+}
+
+// The outcome's number: 0 decoded, 1 failed, 2 working.
+pub fn outcome_number(o: Outcome) -> u16
+    ensures { λ r. ⌜ r ≡ outcomeOf o ⌝ }
+{
+    match o {
+        Outcome::Decoded => 0,
+        Outcome::Failed => 1,
+        Outcome::Working => 2,
+    }
+}

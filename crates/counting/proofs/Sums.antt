@@ -1,0 +1,177 @@
+-- Laws of sums. Assumes nothing.
+use mathlib.Core.Path.{_≡_, refl, sym, ap, ap₂, _∙_}
+use mathlib.Core.Logic.{inl, inr}
+use mathlib.Core.Bool.{Bool, not}
+use Prim.Native.Nat.{ℕ, zero, suc, _+_, _*_, _≤_, _<_, zero-le}
+use native.Mathlib.Nat.{add-zero, add-suc, suc-mul, mul-zero, mul-add, add-mul, zero-mul, one-mul, eq-zero-or-pos, not-suc-le-zero}
+use native.Mathlib.Decide.{ℕ-discrete}
+use native.Mathlib.Omega.{arith}
+use borrow.Author.Tests.{eq-eqb, ne-eqb}
+use Rattle.counting.specs.Sum.{sum, flag, same, differ}
+
+pub sum-cong : (k : ℕ) {f g : ℕ → ℕ} → ((i : ℕ) → i < k → f i ≡ g i) → sum k f ≡ sum k g
+unfolding sum
+sum-cong zero h = refl
+sum-cong (suc k) h = ap₂ _+_ (sum-cong k (λ i l. h i (omega arith))) (h k (omega arith))
+
+pub sum-le : (k : ℕ) {f g : ℕ → ℕ} → ((i : ℕ) → i < k → f i ≤ g i) → sum k f ≤ sum k g
+unfolding sum
+sum-le zero h = zero-le
+sum-le (suc k) h = omega (arith, sum-le k (λ i l. h i (omega arith)), h k (omega arith))
+
+pub sum-zero : (k : ℕ) {f : ℕ → ℕ} → ((i : ℕ) → i < k → f i ≡ 0) → sum k f ≡ 0
+unfolding sum
+sum-zero zero h = refl
+sum-zero (suc k) h = omega (arith, sum-zero k (λ i l. h i (omega arith)), h k (omega arith))
+
+pub sum-bound : (k b : ℕ) {f : ℕ → ℕ} → ((i : ℕ) → i < k → f i ≤ b) → sum k f ≤ k * b
+unfolding sum
+sum-bound zero b h = zero-le
+sum-bound (suc k) b h = omega (arith, sum-bound k b (λ i l. h i (omega arith)), h k (omega arith))
+
+pub sum-add : (k : ℕ) (f g : ℕ → ℕ) → sum k (λ i. f i + g i) ≡ sum k f + sum k g
+unfolding sum
+sum-add zero f g = refl
+sum-add (suc k) f g = omega (arith, sum-add k f g)
+
+pub sum-mul : (k a : ℕ) (f : ℕ → ℕ) → sum k (λ i. a * f i) ≡ a * sum k f
+unfolding sum
+sum-mul zero a f = sym (mul-zero a)
+sum-mul (suc k) a f = omega (arith, sum-mul k a f, mul-add a (sum k f) (f k))
+
+pub sum-mul-right : (k a : ℕ) (f : ℕ → ℕ) → sum k (λ i. f i * a) ≡ sum k f * a
+unfolding sum
+sum-mul-right zero a f = sym (zero-mul a)
+sum-mul-right (suc k) a f = omega (arith, sum-mul-right k a f, add-mul (sum k f) (f k) a)
+
+pub sum-swap : (m n : ℕ) (f : ℕ → ℕ → ℕ) → sum m (λ i. sum n (λ j. f i j)) ≡ sum n (λ j. sum m (λ i. f i j))
+unfolding sum
+sum-swap zero n f = sym (sum-zero n (λ j l. refl))
+sum-swap (suc m) n f =
+    ap (λ (x : ℕ). x + sum n (f m)) (sum-swap m n f) ∙ sym (sum-add n (λ j. sum m (λ i. f i j)) (f m))
+
+-- a sum in two parts, and a sum over m rows of rho terms each
+pub sum-append : (a b : ℕ) (f : ℕ → ℕ) → sum (a + b) f ≡ sum a f + sum b (λ k. f (a + k))
+unfolding sum
+sum-append a zero f = rw (add-zero a) (omega arith)
+sum-append a (suc b) f = rw (add-suc a b) (omega (arith, sum-append a b f))
+
+pub sum-flat : (m rho : ℕ) (f : ℕ → ℕ) → sum (m * rho) f ≡ sum m (λ i. sum rho (λ k. f (i * rho + k)))
+unfolding sum
+sum-flat zero rho f = rw (zero-mul rho)
+sum-flat (suc m) rho f = rw (suc-mul m rho) (omega (arith, sum-append (m * rho) rho f, sum-flat m rho f))
+
+-- one term, where it lies in the sum
+pub sum-term : (k : ℕ) (f : ℕ → ℕ) (i : ℕ) → i < k → f i ≤ sum k f
+unfolding sum
+sum-term zero f i h = absurd (not-suc-le-zero h)
+sum-term (suc k) f i h =
+    elim (ℕ-discrete i k) [ yes e ↦ omega (arith, ap f e) | no ne ↦ omega (arith, sum-term k f i (omega arith)) ]
+
+-- a sum that is not 0 has a term that is not 0
+pub sum-pos : (k : ℕ) (f : ℕ → ℕ) → 0 < sum k f → (i : ℕ) × (i < k) × (0 < f i)
+unfolding sum
+sum-pos zero f h = absurd (not-suc-le-zero h)
+sum-pos (suc k) f h =
+    elim (eq-zero-or-pos (f k))
+    [ inl e ↦ let p = sum-pos k f (omega arith) in (p .0, omega arith, p .2) | inr l ↦ (k, omega arith, l) ]
+
+-- at most one term is not 0, and it is at most 1
+pub sum-one : (k : ℕ) (f : ℕ → ℕ) → ((i : ℕ) → i < k → f i ≤ 1) → ((i i′ : ℕ) → i < i′ → i′ < k → 0 < f i → 0 < f i′ → ⊥) → sum k f ≤ 1
+unfolding sum
+sum-one zero f small once = zero-le
+sum-one (suc k) f small once =
+    elim (eq-zero-or-pos (f k)) [
+      | inl e ↦ omega (arith, sum-one k f (λ i l. small i (omega arith)) (λ i i′ l l′. once i i′ l (omega arith)))
+      | inr h ↦
+          elim (eq-zero-or-pos (sum k f)) [
+            | inl e ↦ omega (arith, small k (omega arith))
+            | inr l ↦ let p = sum-pos k f l in absurd (once (p .0) k (p .1) (omega arith) (p .2) h)
+          ]
+    ]
+
+-- two terms that are not 0
+pub sum-two : (k : ℕ) (f : ℕ → ℕ) (a b : ℕ) → a < k → b < k → (a ≡ b → ⊥) → 0 < f a → 0 < f b → 2 ≤ sum k f
+unfolding sum
+sum-two zero f a b ha hb ne pa pb = absurd (not-suc-le-zero ha)
+sum-two (suc k) f a b ha hb ne pa pb =
+    elim (ℕ-discrete a k) [
+      | yes e ↦ omega (arith, ap f e, sum-term k f b (omega arith))
+      | no na ↦
+          elim (ℕ-discrete b k) [
+            | yes e ↦ omega (arith, ap f e, sum-term k f a (omega arith))
+            | no nb ↦ omega (arith, sum-two k f a b (omega arith) (omega arith) ne pa pb)
+          ]
+    ]
+
+-- ---- tests
+
+pub same-refl : (a : ℕ) → same a a ≡ 1
+unfolding same
+same-refl a = ap flag (eq-eqb a a refl)
+
+pub same-ne : (a b : ℕ) → (a ≡ b → ⊥) → same a b ≡ 0
+unfolding same
+same-ne a b h = ap flag (ne-eqb a b h)
+
+-- the sum that picks one term
+pub sum-pick : (k : ℕ) (f : ℕ → ℕ) (a : ℕ) → a < k → sum k (λ i. same a i * f i) ≡ f a
+unfolding sum
+sum-pick zero f a h = absurd (not-suc-le-zero h)
+sum-pick (suc k) f a h =
+    elim (ℕ-discrete a k) [
+      | yes e ↦
+          let rest : sum k (λ i. same a i * f i) ≡ 0 =
+          sum-zero k (λ i l. ap (λ (x : ℕ). x * f i) (same-ne a i (λ q. omega arith)) ∙ zero-mul (f i)) in
+          omega (arith, ap (λ (x : ℕ). x * f k) (ap (same a) (sym e) ∙ same-refl a), one-mul (f k), ap f e)
+      | no ne ↦ omega (arith, ap (λ (x : ℕ). x * f k) (same-ne a k ne), zero-mul (f k), sum-pick k f a (omega arith))
+    ]
+
+pub same-le : (a b : ℕ) → same a b ≤ 1
+same-le a b =
+    elim (ℕ-discrete a b) [ yes e ↦ omega (arith, ap (same a) (sym e), same-refl a) | no ne ↦ omega (arith, same-ne a b ne) ]
+
+pub same-pos : (a b : ℕ) → 0 < same a b → a ≡ b
+same-pos a b h = elim (ℕ-discrete a b) [ yes e ↦ e | no ne ↦ omega (arith, same-ne a b ne) ]
+
+pub differ-eq : (a b : ℕ) → a ≡ b → differ a b ≡ 0
+unfolding differ
+differ-eq a b h = ap (λ (t : Bool). flag (not t)) (eq-eqb a b h)
+
+pub differ-ne : (a b : ℕ) → (a ≡ b → ⊥) → differ a b ≡ 1
+unfolding differ
+differ-ne a b h = ap (λ (t : Bool). flag (not t)) (ne-eqb a b h)
+
+pub differ-zero : (a b : ℕ) → differ a b ≡ 0 → a ≡ b
+differ-zero a b h = elim (ℕ-discrete a b) [ yes e ↦ e | no ne ↦ omega (arith, differ-ne a b ne) ]
+
+pub differ-sym : (a b : ℕ) → differ a b ≡ differ b a
+differ-sym a b =
+    elim (ℕ-discrete a b)
+    [ yes e ↦ differ-eq a b e ∙ sym (differ-eq b a (sym e)) | no ne ↦ differ-ne a b ne ∙ sym (differ-ne b a (λ e. ne (sym e))) ]
+
+pub differ-triangle : (a b x y : ℕ) → differ a b ≤ differ x a + differ x y + differ y b
+differ-triangle a b x y =
+    elim (ℕ-discrete a b) [
+      | yes e ↦ omega (arith, differ-eq a b e)
+      | no ne ↦
+          elim (ℕ-discrete x a) [
+            | no n1 ↦ omega (arith, differ-ne a b ne, differ-ne x a n1)
+            | yes e1 ↦
+                elim (ℕ-discrete x y) [
+                  | no n2 ↦ omega (arith, differ-ne a b ne, differ-ne x y n2)
+                  | yes e2 ↦ omega (arith, differ-ne a b ne, differ-ne y b (λ e3. ne (sym e1 ∙ e2 ∙ e3)))
+                ]
+          ]
+    ]
+
+-- of bits: they differ where their sum is odd
+pub differ-bits : (a b : ℕ) → a < 2 → b < 2 → a + b ≡ differ a b + 2 * (a * b)
+unfolding differ
+differ-bits zero zero h l = refl
+differ-bits zero (suc zero) h l = refl
+differ-bits zero (suc (suc b)) h l = omega arith
+differ-bits (suc zero) zero h l = refl
+differ-bits (suc zero) (suc zero) h l = refl
+differ-bits (suc zero) (suc (suc b)) h l = omega arith
+differ-bits (suc (suc a)) b h l = omega arith

@@ -1,0 +1,4 @@
+-- The vocabulary that every other crate counts with.
+pub mod Sum
+pub mod Search
+pub mod Lists

@@ -1,0 +1,49 @@
+-- One-step voting on a received word. (Document 01, "One-step voting"; refusals 1 to 5, 7 and 9.)
+--   outcomeBy f               == decoded where no check fails, else failed
+--   stepWord, stepRounds      == the word after the vote, and the rounds
+--   oneStepReport H z         == outcome, rounds, failing and changed
+--   oneStepVerdict H w room   == what is asked before the vote
+--   oneStepOf H w room        == what one-step voting says
+--   oneStepWord H w           == the bytes that it writes
+-- Assumes nothing.
+use Prim.Native.Nat.{ℕ}
+use mathlib.Core.Bool.{Bool, cond, _||_}
+use mathlib.Core.List.{List}
+use lib.Dec.{eqb, ltb}
+use Rattle.answers.specs.Paper.{Verdict, accepted, refuseWhen, andThen, Said, report, after}
+use Rattle.packed_word.specs.Packed.{bitAt, bytesFor, pack, spareSet, distance}
+use Rattle.parity_check.specs.Code.{Matrix, failing}
+use Rattle.parity_check.specs.Check.{checkOf}
+use Rattle.syndrome.specs.Failing.{wrongLength}
+use Rattle.majority_logic.specs.Voting.{flipped}
+
+-- 0 decoded, 1 failed
+abbrev pub outcomeBy : ℕ → ℕ
+outcomeBy f = cond (eqb f 0) 0 1
+
+-- "If no check of the received word fails, the word is decoded as it is .. Else each bit .. is flipped"
+unfoldable pub stepWord : Matrix → (ℕ → ℕ) → ℕ → ℕ
+stepWord H z j = cond (eqb (failing H z) 0) (z j) (flipped H z j)
+
+-- "rounds 0", else "Rounds is 1"
+unfoldable pub stepRounds : Matrix → (ℕ → ℕ) → ℕ
+stepRounds H z = cond (eqb (failing H z) 0) 0 1
+
+-- "If no check of the new word fails it is decoded, else failed"
+unfoldable pub oneStepReport : Matrix → (ℕ → ℕ) → Said
+oneStepReport H z =
+    report (outcomeBy (failing H (stepWord H z))) (stepRounds H z) (failing H (stepWord H z)) (distance (H .n) (stepWord H z) z)
+
+-- refusals 1 to 5, 7 (the received word w, or a written buffer of fewer cells than needed) and 9
+unfoldable pub oneStepVerdict : Matrix → List ℕ → ℕ → Verdict
+oneStepVerdict H w room =
+    andThen (checkOf H)
+    (refuseWhen 7 (wrongLength (H .n) w || ltb room (bytesFor (H .n))) (refuseWhen 9 (spareSet (H .n) w) accepted))
+
+-- the answer
+unfoldable pub oneStepOf : Matrix → List ℕ → ℕ → Said
+oneStepOf H w room = after (oneStepVerdict H w room) (oneStepReport H (bitAt w))
+
+-- "The word is written in either outcome"
+unfoldable pub oneStepWord : Matrix → List ℕ → List ℕ
+oneStepWord H w = pack (H .n) (stepWord H (bitAt w))

@@ -1,0 +1,2 @@
+-- What the contracts of `syndrome` cite.
+pub mod Failing
