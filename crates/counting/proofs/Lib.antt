@@ -1,3 +1,6 @@
 pub mod Sums
+pub mod Ascending
 pub mod Searches
 pub mod Writing
+pub mod Integers
+pub mod Stores

@@ -31,6 +31,18 @@ and-right false b e = absurd (never (sym e))
 pub and-both : (a b : Bool) → a ≡ true → b ≡ true → (a && b) ≡ true
 and-both a b e f = rw (e, f)
 
+-- what a disjunction that fails says of its parts
+pub or-left : (a b : Bool) → (a || b) ≡ false → a ≡ false
+or-left true b e = e
+or-left false b e = refl
+
+pub or-right : (a b : Bool) → (a || b) ≡ false → b ≡ false
+or-right true b e = absurd (never e)
+or-right false b e = e
+
+pub or-neither : (a b : Bool) → a ≡ false → b ≡ false → (a || b) ≡ false
+or-neither a b e f = rw (e, f)
+
 module _ (t : ℕ → Bool) where
   -- one place more
   pub any-step : (k : ℕ) → any t (k + 1) ≡ any t k || t k

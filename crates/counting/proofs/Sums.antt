@@ -134,6 +134,11 @@ same-le a b =
 pub same-pos : (a b : ℕ) → 0 < same a b → a ≡ b
 same-pos a b h = elim (ℕ-discrete a b) [ yes e ↦ e | no ne ↦ omega (arith, same-ne a b ne) ]
 
+pub same-sym : (a b : ℕ) → same a b ≡ same b a
+same-sym a b =
+    elim (ℕ-discrete a b)
+    [ yes e ↦ ap₂ same e (sym e) | no ne ↦ same-ne a b ne ∙ sym (same-ne b a (λ e. ne (sym e))) ]
+
 pub differ-eq : (a b : ℕ) → a ≡ b → differ a b ≡ 0
 unfolding differ
 differ-eq a b h = ap (λ (t : Bool). flag (not t)) (eq-eqb a b h)
@@ -175,3 +180,17 @@ differ-bits (suc zero) zero h l = refl
 differ-bits (suc zero) (suc zero) h l = refl
 differ-bits (suc zero) (suc (suc b)) h l = omega arith
 differ-bits (suc (suc a)) b h l = omega arith
+
+-- ---- parts of a sum
+
+-- the first terms are no more than all of them
+pub sum-part : (k n : ℕ) (f : ℕ → ℕ) → k ≤ n → sum k f ≤ sum n f
+unfolding sum
+sum-part k zero f h = let e : k ≡ 0 = omega arith in omega (arith, ap (λ (y : ℕ). sum y f) e)
+sum-part k (suc n) f h =
+    elim (ℕ-discrete k (suc n)) [ yes e ↦ omega (arith, ap (λ (y : ℕ). sum y f) e) | no ne ↦ omega (arith, sum-part k n f (omega arith)) ]
+
+-- nor are the first terms and the next
+pub sum-next : (k n : ℕ) (f : ℕ → ℕ) → k < n → sum k f + f k ≤ sum n f
+unfolding sum
+sum-next k n f h = sum-part (suc k) n f h

@@ -1,13 +1,14 @@
 -- Laws of lists by their places, and of buffers overwritten at the front. Assumes nothing.
 use mathlib.Core.Path.{_≡_, refl, sym, ap, ap₂, _∙_}
 use mathlib.Core.List.{List, [], _∷_, _++_, append-assoc}
-use mathlib.Core.Logic.{⊎-elim}
+use mathlib.Core.Logic.{_⊎_, inl, inr, ⊎-elim}
 use Prim.Native.Nat.{ℕ, zero, suc, _+_, _-_, _≤_, _<_}
 use native.Mathlib.Nat.{le-of-suc-le-suc, not-suc-le-zero, eq-or-lt-of-le}
 use native.Mathlib.Numerals.{add-one}
+use native.Mathlib.Decide.{ℕ-discrete}
 use native.Mathlib.Omega.{arith}
-use lib.ListN.{length, getD, drop, take, set, length-append, length-drop, List·getD-append}
-use lib.Seq.{getD-append-add, getD-append-seam, getD-drop, take-append-seam, drop-append-seam, drop-cons, append-snoc, set-at, ext-getD}
+use lib.ListN.{length, getD, drop, take, set, replicate, length-append, length-drop, List·getD-append}
+use lib.Seq.{getD-append-add, getD-append-seam, getD-drop, take-append-seam, drop-append-seam, drop-cons, append-snoc, set-at, getD-set-same, getD-set-other, ext-getD}
 use Rattle.counting.specs.Lists.{listed, over}
 
 module _ {A : Type 0} where
@@ -80,3 +81,34 @@ module _ {A : Type 0} where
       ∙ set-at (listed k f) (getD old k (f k)) (drop (suc k) old) (f k) k n
       ∙ sym (append-snoc (listed k f) (f k) (drop (suc k) old))
       ∙ ap (λ (x : ℕ). (listed k f ++ (f k ∷ [])) ++ drop x old) (sym n′)
+
+-- ---- one store in a list of numbers
+
+-- what stands at a place after a store: the stored value there, the old one elsewhere
+pub stored : (l : List ℕ) (x v i : ℕ) → x < length l
+    → ((getD (set l x v) i 0 ≡ v) × (i ≡ x)) ⊎ ((getD (set l x v) i 0 ≡ getD l i 0) × (i ≡ x → ⊥))
+stored l x v i h =
+    elim (ℕ-discrete i x) [ yes e ↦ inl (rw e (getD-set-same l x v 0 h), e) | no ne ↦ inr (getD-set-other l x i v 0 ne, ne) ]
+
+-- an array of zeros is zero at every place, past its end too
+pub zeros : (k i : ℕ) → getD {A = ℕ} (replicate k 0) i 0 ≡ 0
+zeros zero i = refl
+zeros (suc k) zero = refl
+zeros (suc k) (suc i) = zeros k i
+
+-- ---- a loop that overwrites a buffer from its front
+
+module _ {A : Type 0} (k : ℕ) (f : ℕ → A) (old new : List A) (e : new ≡ over (listed k f) old) where
+  -- the buffer stays as long as it was
+  pub over-long : k ≤ length old → length new ≡ length old
+  over-long h = ap length e ∙ length-over (listed k f) old (omega (arith, length-listed k f))
+
+  -- one store at the next place
+  pub over-step : (v : A) → k < length old → v ≡ f k → set new k v ≡ over (listed (k + 1) f) old
+  over-step v h q = rw (e, q, add-one k) (over-more k f old h)
+
+-- the later of two writings of one length
+pub over-over : {A : Type 0} (a b old : List A) → length a ≡ length b → over a (over b old) ≡ over a old
+unfolding over
+over-over a b old e =
+    ap (λ (x : ℕ). a ++ drop x (over b old)) e ∙ ap (λ (x : List _). a ++ x) (drop-over b old) ∙ ap (λ (x : ℕ). a ++ drop x old) (sym e)

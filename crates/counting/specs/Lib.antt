@@ -2,3 +2,4 @@
 pub mod Sum
 pub mod Search
 pub mod Lists
+pub mod Integers

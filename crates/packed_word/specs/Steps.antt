@@ -2,11 +2,13 @@
 --   at l             == the list l as a function of the place, 0 past its end
 --   SetBit, FlipBit  == one bit of a packed word set, turned over
 --   Unpacked         == an array that holds a word's bits one by one
+--   apart x y        == the number of places at which two bytes differ
 -- Assumes nothing.
-use Prim.Native.Nat.{ℕ, _-_, _<_, _≤_}
+use Prim.Native.Nat.{ℕ, _-_, _/_, _%_, _^_, _<_, _≤_}
 use mathlib.Core.Path.{_≡_}
 use mathlib.Core.List.{List}
 use lib.ListN.{length, getD}
+use Rattle.counting.specs.Sum.{sum, differ}
 use Rattle.packed_word.specs.Packed.{bitAt}
 
 -- a list read by its places
@@ -30,3 +32,7 @@ pub record Unpacked (n : ℕ) (w old new : List ℕ) : Type 0 where
   pub long : length new ≡ 1023
   pub each : (j : ℕ) → j < n → at new j ≡ bitAt w j
   pub rest : (j : ℕ) → n ≤ j → at new j ≡ at old j
+
+-- the places, of eight, at which two bytes differ, the highest first
+unfoldable pub apart : ℕ → ℕ → ℕ
+apart x y = sum 8 (λ i. differ (x / 2 ^ (7 - i) % 2) (y / 2 ^ (7 - i) % 2))

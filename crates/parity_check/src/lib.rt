@@ -4,11 +4,17 @@ use answers::Checked;
 use answers::Refusal;
 ghost use mathlib.Core.Path.{_≡_};
 ghost use mathlib.Core.Bool.{true, false};
-ghost use Prim.Native.Nat.{ℕ, _+_, _*_, _%_, _<_, _≤_};
-ghost use lib.ListN.{length, getD};
+ghost use mathlib.Core.List.{[]};
+ghost use Prim.Native.Nat.{ℕ, _+_, _*_, _/_, _%_, _<_, _≤_};
+ghost use lib.ListN.{length, getD, set};
+ghost use Rattle.counting.specs.Search.{first};
 ghost use Rattle.answers.specs.Answers.{verdictOf};
-ghost use Rattle.parity_check.specs.Check.{sizesFit, checkOf};
+ghost use Rattle.parity_check.specs.Code.{entry, common};
+ghost use Rattle.parity_check.specs.Check.{within, sizesFit, badEntry, overlapping, checkOf};
+ghost use Rattle.parity_check.specs.Reading.{Overlap, Never};
 ghost use Rattle.parity_check.specs.Shapes.{matrixOf};
+ghost use Rattle.parity_check.specs.Walking.{Sized, Ordered, Tally, listAt, Walked, offWeight};
+ghost use Rattle.parity_check.specs.Pairs.{Put, Grown, Beside, PairsOf};
 
 // The sizes of a matrix: columns, rows, ones in each row, ones in each column.
 pub struct Shape {
@@ -16,4 +22,284 @@ pub struct Shape {
     pub m: u16,
     pub rho: u16,
     pub gamma: u16,
+}
+
+// Whether x lies from lo to hi.
+fn in_range(lo: u16, x: u16, hi: u16) -> bool
+    ensures { λ r. ⌜ r ≡ within lo x hi ⌝ }
+{
+    (lo <= x) & (x <= hi)
+}
+
+// Whether the sizes are in range and go together. Every test is made, since the products fit a usize whatever the sizes are.
+fn sizes_fit(shape: Shape) -> bool
+    ensures { λ r. ⌜ r ≡ sizesFit (matrixOf shape []) ⌝ }
+{
+    let ones_by_row = shape.m as usize * shape.rho as usize;
+    let ones_by_column = shape.n as usize * shape.gamma as usize;
+    in_range(2, shape.n, 1023)
+        & in_range(1, shape.m, 1023)
+        & in_range(2, shape.rho, 32)
+        & in_range(1, shape.gamma, 32)
+        & (ones_by_row == ones_by_column)
+}
+
+// The place in its row of the entry after one at place k.
+fn next_place(k: usize, rho: usize) -> usize
+    requires { ⌜ k < rho ⌝ }
+    ensures { λ r. ⌜ r ≡ (k + 1) % rho ⌝ }
+{
+    if k + 1 == rho { 0 } else { k + 1 }
+}
+
+// Whether entry p, at place k of its row, is not below n or not above the one before it.
+fn bad_entry(shape: Shape, list: &[u16], p: usize, k: usize) -> bool
+    requires { ⌜ (p < length (now list)) × (k ≡ p % (shape .rho)) ⌝ }
+    ensures { λ r. ⌜ r ≡ badEntry (matrixOf shape (now (list .entry))) p ⌝ }
+{
+    let n = shape.n;
+    let c = list[p];
+    if n <= c {
+        return true;
+    }
+    if k == 0 {
+        return false;
+    }
+    c <= list[p - 1]
+}
+
+// One more for column c.
+fn count(tally: &mut [u16; 1023], c: usize)
+    requires { ⌜ (c < 1023) × (getD (now tally) c 0 < 65535) ⌝ }
+    ensures { λ _. ⌜ now (tally .exit) ≡ set (now (tally .entry)) c (getD (now (tally .entry)) c 0 + 1) ⌝ }
+{
+    tally[c] += 1;
+}
+
+// The first bad entry, else the list's length. The same pass counts the columns.
+fn walk(shape: Shape, list: &[u16], weights: &mut [u16; 1023]) -> usize
+    requires { ⌜ Sized (matrixOf shape (now list)) × Tally (listAt (matrixOf shape (now list))) 0 (now weights) ⌝ }
+    ensures { λ r. ⌜ Walked (matrixOf shape (now (list .entry))) (now (weights .exit)) r ⌝ }
+{
+    let rho = shape.rho as usize;
+    let mut p = 0;
+    let mut k = 0;
+    while p < list.len() {
+        if bad_entry(shape, list, p, k) {
+            return p;
+        }
+        count(weights, list[p] as usize);
+        k = next_place(k, rho);
+        p += 1;
+    }
+    p
+}
+
+// The first column whose weight is not gamma, else n.
+fn first_off_weight(shape: Shape, weights: &[u16; 1023]) -> usize
+    requires { ⌜ shape .n ≤ 1023 ⌝ }
+    ensures { λ r. ⌜ r ≡ first (offWeight (shape .gamma) (now (weights .entry))) (shape .n) ⌝ }
+{
+    let n = shape.n as usize;
+    let gamma = shape.gamma;
+    let mut j = 0;
+    while j < n {
+        if weights[j] != gamma {
+            return j;
+        }
+        j += 1;
+    }
+    j
+}
+
+// The k-th column number of row i.
+fn column(shape: Shape, list: &[u16], i: usize, k: usize) -> usize
+    requires { ⌜ Sized (matrixOf shape (now list)) × (i < shape .m) × (k < shape .rho) ⌝ }
+    ensures { λ r. ⌜ r ≡ entry (matrixOf shape (now (list .entry))) i k ⌝ }
+{
+    let rho = shape.rho as usize;
+    list[i * rho + k] as usize
+}
+
+// How often each column stands in row i.
+fn marks_of(shape: Shape, list: &[u16], i: usize) -> [u16; 1023]
+    requires { ⌜ Ordered (matrixOf shape (now list)) × (i < shape .m) ⌝ }
+    ensures { λ r. ⌜ Tally (entry (matrixOf shape (now (list .entry))) i) (shape .rho) r ⌝ }
+{
+    let rho = shape.rho as usize;
+    let mut marks = [0u16; 1023];
+    let mut k = 0;
+    while k < rho {
+        count(&mut marks, column(shape, list, i, k));
+        k += 1;
+    }
+    marks
+}
+
+// A u16 as a usize.
+fn wide(x: u16) -> usize
+    ensures { λ r. ⌜ r ≡ x ⌝ }
+{
+    x as usize
+}
+
+// How many columns row i, whose marks are given, has in common with row later.
+fn common_with(shape: Shape, list: &[u16], i: usize, later: usize, marks: &[u16; 1023]) -> usize
+    requires { ⌜ Ordered (matrixOf shape (now list)) × (later < shape .m) × Tally (entry (matrixOf shape (now list)) i) (shape .rho) (now marks) ⌝ }
+    ensures { λ r. ⌜ r ≡ common (matrixOf shape (now (list .entry))) i later ⌝ }
+{
+    let rho = shape.rho as usize;
+    let mut shared: usize = 0;
+    let mut k = 0;
+    while k < rho {
+        let c = column(shape, list, later, k);
+        shared += wide(marks[c]);
+        k += 1;
+    }
+    shared
+}
+
+// Whether row i shares two columns or more with a later row.
+fn row_overlaps(shape: Shape, list: &[u16], i: usize) -> bool
+    requires { ⌜ Ordered (matrixOf shape (now list)) × (i < shape .m) ⌝ }
+    ensures { λ r. ⌜ r ≡ overlapping (matrixOf shape (now (list .entry))) i ⌝ }
+{
+    let m = shape.m as usize;
+    let marks = marks_of(shape, list, i);
+    let mut later = i + 1;
+    while later < m {
+        if common_with(shape, list, i, later, &marks) >= 2 {
+            return true;
+        }
+        later += 1;
+    }
+    false
+}
+
+// The first row that does, else m. All pairs of rows are compared.
+fn exact_overlap(shape: Shape, list: &[u16]) -> usize
+    requires { ⌜ Ordered (matrixOf shape (now list)) ⌝ }
+    ensures { λ r. ⌜ r ≡ first (overlapping (matrixOf shape (now (list .entry)))) (shape .m) ⌝ }
+{
+    let m = shape.m as usize;
+    let mut i = 0;
+    while i < m {
+        if row_overlaps(shape, list, i) {
+            return i;
+        }
+        i += 1;
+    }
+    i
+}
+
+// Puts the pairs of column a with the columns of `row` up to a into the set. The answer is 0 where none was there before.
+fn put_beside(set: &mut [u64; 16384], a: usize, row: &[u64; 16]) -> u64
+    requires { ⌜ (a < 1023) × (length (now set) ≡ 16384) ⌝ }
+    ensures { λ r. ⌜ Put (Beside a (now (row .entry)) (a / 64 + 1)) (now (set .entry)) (now (set .exit)) r ⌝ }
+{
+    let words = a / 64 + 1;
+    let mut twice: u64 = 0;
+    let mut v = 0;
+    while v < words {
+        let at = a * 16 + v;
+        let new = row[v];
+        let old = set[at];
+        twice = twice | (old & new);
+        set[at] = old | new;
+        v += 1;
+    }
+    twice
+}
+
+// Puts column a into the columns of a row.
+fn put_column(row: &mut [u64; 16], a: usize)
+    requires { ⌜ (a < 1023) × (length (now row) ≡ 16) ⌝ }
+    ensures { λ _. ⌜ Grown a (now (row .entry)) (now (row .exit)) ⌝ }
+{
+    row[a / 64] = row[a / 64] | (1 << (a % 64));
+}
+
+// Puts the pairs of row i into the set. The answer is 0 where none was there before.
+fn put_row(shape: Shape, list: &[u16], i: usize, set: &mut [u64; 16384]) -> u64
+    requires { ⌜ Ordered (matrixOf shape (now list)) × (i < shape .m) × (length (now set) ≡ 16384) ⌝ }
+    ensures { λ r. ⌜ Put (PairsOf (matrixOf shape (now (list .entry))) i (shape .rho)) (now (set .entry)) (now (set .exit)) r ⌝ }
+{
+    let rho = shape.rho as usize;
+    let mut row = [0u64; 16];
+    let mut twice: u64 = 0;
+    let mut k = 0;
+    while k < rho {
+        let a = column(shape, list, i, k);
+        twice = twice | put_beside(set, a, &row);
+        put_column(&mut row, a);
+        k += 1;
+    }
+    twice
+}
+
+// Whether a pair of columns stands in two rows. Where it says false, no two rows share two columns.
+fn pair_twice(shape: Shape, list: &[u16]) -> bool
+    requires { ⌜ Ordered (matrixOf shape (now list)) ⌝ }
+    ensures { λ r. ⌜ (r ≡ false → Never (Overlap (matrixOf shape (now (list .entry)))) (shape .m)) ⌝ }
+{
+    let m = shape.m as usize;
+    let mut set = [0u64; 16384];
+    let mut i = 0;
+    while i < m {
+        if put_row(shape, list, i, &mut set) != 0 {
+            return true;
+        }
+        i += 1;
+    }
+    false
+}
+
+// The first row that shares two columns or more with a later row, else m.
+// One pass over the pairs of columns finds that there is none, as in every accepted matrix.
+fn first_overlap(shape: Shape, list: &[u16]) -> usize
+    requires { ⌜ Ordered (matrixOf shape (now list)) ⌝ }
+    ensures { λ r. ⌜ r ≡ first (overlapping (matrixOf shape (now (list .entry)))) (shape .m) ⌝ }
+{
+    if pair_twice(shape, list) {
+        return exact_overlap(shape, list);
+    }
+    shape.m as usize
+}
+
+// Refusals 3 to 5: the matrix check once the sizes and the length are right.
+fn check_list(shape: Shape, list: &[u16]) -> Checked
+    requires { ⌜ Sized (matrixOf shape (now list)) ⌝ }
+    ensures { λ r. ⌜ verdictOf r ≡ checkOf (matrixOf shape (now (list .entry))) ⌝ }
+{
+    let n = shape.n as usize;
+    let m = shape.m as usize;
+    let mut weights = [0u16; 1023];
+    let p = walk(shape, list, &mut weights);
+    if p < list.len() {
+        return Checked::Refused(Refusal::Entry(p as u16));
+    }
+    let j = first_off_weight(shape, &weights);
+    if j < n {
+        return Checked::Refused(Refusal::Weight(j as u16));
+    }
+    let i = first_overlap(shape, list);
+    if i < m {
+        return Checked::Refused(Refusal::Overlap(i as u16));
+    }
+    Checked::Accepted
+}
+
+// The matrix check. No input needs to be looked at before.
+pub fn check(shape: Shape, list: &[u16]) -> Checked
+    ensures { λ r. ⌜ verdictOf r ≡ checkOf (matrixOf shape (now (list .entry))) ⌝ }
+{
+    if !sizes_fit(shape) {
+        return Checked::Refused(Refusal::Sizes);
+    }
+    let m = shape.m as usize;
+    let rho = shape.rho as usize;
+    if list.len() != m * rho {
+        return Checked::Refused(Refusal::Length);
+    }
+    check_list(shape, list)
 }

@@ -1,2 +1,3 @@
 -- What the contracts of `syndrome` cite.
 pub mod Failing
+pub mod Places

@@ -1,2 +1,103 @@
 // The syndrome of a word: which parity checks fail, and how many.
 // Rests on `parity_check` and `packed_word`. Document 01: "The code and the block", refusals 1 to 5, 7 and 9.
+use answers::Checked;
+use answers::Counted;
+use answers::Refusal;
+use packed_word::spare_set;
+use packed_word::unpack;
+use parity_check::Shape;
+use parity_check::check;
+ghost use mathlib.Core.Path.{_≡_};
+ghost use Prim.Native.Nat.{_%_};
+ghost use lib.ListN.{length};
+ghost use Rattle.packed_word.specs.Steps.{at};
+ghost use Rattle.parity_check.specs.Code.{Word, fails, failing};
+ghost use Rattle.parity_check.specs.Reading.{Accepted};
+ghost use Rattle.parity_check.specs.Shapes.{matrixOf};
+ghost use Rattle.answers.specs.Answers.{countedOf};
+ghost use Rattle.syndrome.specs.Failing.{failingOf};
+ghost use Rattle.syndrome.specs.Places.{Part, BitsAt, ones, Checks, rowFails, Places};
+
+// The parity of the bits at `count` column numbers of the list: a row's check fails where it is 1.
+fn row_parity(list: &[u16], from: usize, count: usize, bits: &[u8; 1023]) -> u8
+    requires { ⌜ Part (now list) from count × BitsAt (now list) from count (at (now bits)) ⌝ }
+    ensures { λ r. ⌜ r ≡ ones (now (list .entry)) from count (at (now (bits .entry))) % 2 ⌝ }
+{
+    let mut x: u8 = 0;
+    let mut k = 0;
+    while k < count {
+        let j = list[from + k] as usize;
+        x = x ^ bits[j];
+        k += 1;
+    }
+    x
+}
+
+// Lists the rows whose checks fail at the front of `rows`, and says how many they are.
+// Each row is written and then counted by its parity, so that no branch is guessed wrong.
+fn list_failing(list: &[u16], m: usize, rho: usize, bits: &[u8; 1023], rows: &mut [u16]) -> usize
+    requires { ⌜ Checks (now list) m rho (at (now bits)) × (length (now rows) ≡ 1023) ⌝ }
+    ensures { λ r. ⌜ Places (rowFails (now (list .entry)) rho (at (now (bits .entry)))) m (now (rows .exit)) r ⌝ }
+{
+    let mut t = 0;
+    let mut i = 0;
+    while i < m {
+        rows[t] = i as u16;
+        t += row_parity(list, i * rho, rho, bits) as usize;
+        i += 1;
+    }
+    t
+}
+
+// The rows of an accepted matrix whose checks fail.
+pub fn failing_rows(shape: Shape, list: &[u16], bits: &[u8; 1023], rows: &mut [u16; 1023]) -> usize
+    requires { ⌜ Accepted (matrixOf shape (now list)) × Word (matrixOf shape (now list)) (at (now bits)) ⌝ }
+    ensures { λ r. ⌜ Places (fails (matrixOf shape (now (list .entry))) (at (now (bits .entry)))) (shape .m) (now (rows .exit)) r ⌝ }
+{
+    let m = shape.m as usize;
+    let rho = shape.rho as usize;
+    list_failing(list, m, rho, bits, rows)
+}
+
+// How many checks of a word fail.
+pub fn failing_count(shape: Shape, list: &[u16], bits: &[u8; 1023]) -> u16
+    requires { ⌜ Accepted (matrixOf shape (now list)) × Word (matrixOf shape (now list)) (at (now bits)) ⌝ }
+    ensures { λ r. ⌜ r ≡ failing (matrixOf shape (now (list .entry))) (at (now (bits .entry))) ⌝ }
+{
+    let m = shape.m as usize;
+    let rho = shape.rho as usize;
+    let mut count: u16 = 0;
+    let mut i = 0;
+    while i < m {
+        count += row_parity(list, i * rho, rho, bits) as u16;
+        i += 1;
+    }
+    count
+}
+
+// The count on a matrix that the check accepts: the received word's length, its spare places, then its failing checks.
+fn failing_accepted(shape: Shape, list: &[u16], received: &[u8]) -> Counted
+    requires { ⌜ Accepted (matrixOf shape (now list)) ⌝ }
+    ensures { λ r. ⌜ countedOf r ≡ failingOf (matrixOf shape (now (list .entry))) (now (received .entry)) ⌝ }
+{
+    let n = shape.n as usize;
+    if received.len() != (n + 7) / 8 {
+        return Counted::Refused(Refusal::Buffer);
+    }
+    if spare_set(received, n) {
+        return Counted::Refused(Refusal::Spare);
+    }
+    let mut bits = [0u8; 1023];
+    unpack(received, n, &mut bits);
+    Counted::Failing(failing_count(shape, list, &bits))
+}
+
+// How many checks of a received word fail. No input needs to be looked at before.
+pub fn failing(shape: Shape, list: &[u16], received: &[u8]) -> Counted
+    ensures { λ r. ⌜ countedOf r ≡ failingOf (matrixOf shape (now (list .entry))) (now (received .entry)) ⌝ }
+{
+    match check(shape, list) {
+        Checked::Accepted => failing_accepted(shape, list, received),
+        Checked::Refused(f) => Counted::Refused(f),
+    }
+}

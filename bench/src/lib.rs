@@ -1,0 +1,5 @@
+//! The benchmark's parts: a hand-optimised decoder in Rust to measure the library against, and
+//! the clock. The literal form is the reference decoder.
+
+pub mod clock;
+pub mod optimised;

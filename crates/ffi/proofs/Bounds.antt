@@ -1,0 +1,61 @@
+-- The numbers of every answer have room in its code. Assumes nothing.
+use mathlib.Core.Path.{_≡_, refl}
+use mathlib.Core.Bool.{Bool, true, false, cond}
+use mathlib.Core.List.{List}
+use Prim.Native.Nat.{ℕ, _≤_, _<_}
+use native.Mathlib.Omega.{arith}
+use lib.Dec.{eqb}
+use Rattle.counting.specs.Sum.{sum}
+use Rattle.counting.proofs.Sums.{sum-bound}
+use Rattle.answers.specs.Paper.{Verdict, accepted, refused, Said, report, andThen, after}
+use Rattle.packed_word.specs.Packed.{bitAt}
+use Rattle.packed_word.proofs.Distances.{distance-le}
+use Rattle.parity_check.specs.Code.{Matrix, fails, failing}
+use Rattle.parity_check.specs.Check.{checkOf}
+use Rattle.parity_check.specs.Reading.{Accepted, Sizes}
+use Rattle.parity_check.proofs.Rows.{fails-bit}
+use Rattle.parity_check.proofs.Reading.{accepted-is}
+use Rattle.syndrome.specs.Failing.{failingVerdict, failingOf}
+use Rattle.majority_logic.specs.OneStep.{stepWord, stepRounds, oneStepReport, oneStepVerdict, oneStepOf}
+use Rattle.ffi.specs.Codes.{Small, Room}
+
+-- no more checks fail than there are
+pub failing-le : (H : Matrix) (z : ℕ → ℕ) → failing H z ≤ H .m
+unfolding failing
+failing-le H z = omega (arith, sum-bound (H .m) 1 {f = fails H z} (λ i h. omega (arith, fails-bit H z i)))
+
+-- an answer is small where its report is so on an accepted matrix
+after-small : (v w : Verdict) (s : Said) → (v ≡ accepted → Small s) → Small (after (andThen v w) s)
+after-small accepted accepted s h = h refl
+after-small accepted (refused k x) s h = tt
+after-small (refused k x) w s h = tt
+
+-- rounds are 0 or 1
+rounds-le : (H : Matrix) (z : ℕ → ℕ) → stepRounds H z ≤ 1
+unfolding stepRounds
+rounds-le H z = either (eqb (failing H z) 0)
+  where
+    either : (b : Bool) → cond b 0 1 ≤ 1
+    either true = omega arith
+    either false = omega arith
+
+-- a count of failing checks
+pub failing-small : (H : Matrix) (w : List ℕ) → Small (failingOf H w)
+unfolding failingOf failingVerdict
+failing-small H w =
+    after-small (checkOf H) _ _ (λ e.
+    record { rounds = omega arith; failing = omega (arith, failing-le H (bitAt w), accepted-is H e .sizes .m-most); changed = omega arith })
+
+-- one-step voting, on an accepted matrix and as a whole
+pub report-small : (H : Matrix) → Accepted H → (z : ℕ → ℕ) → Small (oneStepReport H z)
+unfolding oneStepReport
+report-small H a z =
+    record {
+      rounds = omega (arith, rounds-le H z);
+      failing = omega (arith, failing-le H (stepWord H z), a .sizes .m-most);
+      changed = omega (arith, distance-le (H .n) (stepWord H z) z, a .sizes .n-most);
+    }
+
+pub one-step-small : (H : Matrix) (w : List ℕ) (room : ℕ) → Small (oneStepOf H w room)
+unfolding oneStepOf oneStepVerdict
+one-step-small H w room = after-small (checkOf H) _ _ (λ e. report-small H (accepted-is H e) (bitAt w))

@@ -1,0 +1,20 @@
+-- An answer as one number of 64 bits.
+--   codeOf s   == code + 2 ^ 32 × (rounds + 2 ^ 8 × (failing + 2 ^ 12 × changed)), code being the outcome,
+--                 or refusal number × 65,536 + place
+--   Small s    == rounds, failing and changed have room in it
+-- Assumes nothing.
+use Prim.Native.Nat.{ℕ, _+_, _*_, _<_}
+use Rattle.answers.specs.Paper.{Said, refusal, report}
+
+abbrev pub codeOf : Said → ℕ
+codeOf (refusal k x) = k * 65536 + x
+codeOf (report o r f c) = o + 4294967296 * (r + 256 * (f + 4096 * c))
+
+pub record Room (r f c : ℕ) : Type 0 where
+  pub rounds : r < 256
+  pub failing : f < 4096
+  pub changed : c < 4096
+
+abbrev pub Small : Said → Type 0
+Small (refusal k x) = Unit {0}
+Small (report o r f c) = Room r f c

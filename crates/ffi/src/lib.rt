@@ -1,0 +1,138 @@
+// Exported functions for tests and benchmarks: each answer is one number of 64 bits.
+// Rests on every decoder. Design, section 4: the test face.
+use answers::Answer;
+use answers::Checked;
+use answers::Counted;
+use answers::Refusal;
+use answers::Report;
+use parity_check::Shape;
+ghost use mathlib.Core.Path.{_≡_};
+ghost use Prim.Native.Nat.{_+_, _*_};
+ghost use lib.ListN.{length};
+ghost use Rattle.answers.specs.Paper.{report, after, written};
+ghost use Rattle.answers.specs.Answers.{numberOf, placeOf, reportOf, saidOf, verdictOf, countedOf};
+ghost use Rattle.counting.specs.Lists.{over};
+ghost use Rattle.packed_word.specs.Packed.{bitAt};
+ghost use Rattle.parity_check.specs.Code.{matrix};
+ghost use Rattle.parity_check.specs.Check.{checkOf};
+ghost use Rattle.syndrome.specs.Failing.{failingOf};
+ghost use Rattle.majority_logic.specs.OneStep.{oneStepReport, oneStepVerdict, oneStepOf, oneStepWord};
+ghost use Rattle.one_step.specs.Stepped.{Lent};
+ghost use Rattle.ffi.specs.Codes.{codeOf, Small};
+
+// A refusal: its number and its place.
+fn refusal_code(f: Refusal) -> u64
+    ensures { λ r. ⌜ r ≡ numberOf f * 65536 + placeOf f ⌝ }
+{
+    let k = answers::number(f) as u64;
+    let x = answers::place(f) as u64;
+    k * 65536 + x
+}
+
+// A report: outcome, rounds, failing and changed, each in its own places.
+fn report_code(p: Report) -> u64
+    requires { ⌜ Small (reportOf p) ⌝ }
+    ensures { λ r. ⌜ r ≡ codeOf (reportOf p) ⌝ }
+{
+    let outcome = p.outcome;
+    let o = answers::outcome_number(outcome) as u64;
+    let r = p.rounds as u64;
+    let f = p.failing as u64;
+    let c = p.changed as u64;
+    o + 4294967296 * (r + 256 * (f + 4096 * c))
+}
+
+// The answer of a decoding call.
+fn answer_code(a: Answer) -> u64
+    requires { ⌜ Small (saidOf a) ⌝ }
+    ensures { λ r. ⌜ r ≡ codeOf (saidOf a) ⌝ }
+{
+    match a {
+        Answer::Done(p) => report_code(p),
+        Answer::Refused(f) => refusal_code(f),
+    }
+}
+
+// The answer of a count: failing alone is not 0.
+fn counted_code(a: Counted) -> u64
+    requires { ⌜ Small (countedOf a) ⌝ }
+    ensures { λ r. ⌜ r ≡ codeOf (countedOf a) ⌝ }
+{
+    match a {
+        Counted::Failing(f) => 4294967296 * (256 * (f as u64)),
+        Counted::Refused(f) => refusal_code(f),
+    }
+}
+
+// The answer of a check: 0 where it accepts.
+fn checked_code(a: Checked) -> u64
+    ensures { λ r. ⌜ r ≡ codeOf (after (verdictOf a) (report 0 0 0 0)) ⌝ }
+{
+    match a {
+        Checked::Accepted => 0,
+        Checked::Refused(f) => refusal_code(f),
+    }
+}
+
+// The matrix check.
+#[no_mangle]
+pub extern "C" fn mlgd_check(n: u16, m: u16, rho: u16, gamma: u16, list: &[u16]) -> u64
+    ensures { λ r. ⌜ r ≡ codeOf (after (checkOf (matrix n m rho gamma (now (list .entry)))) (report 0 0 0 0)) ⌝ }
+{
+    let shape = Shape { n, m, rho, gamma };
+    checked_code(parity_check::check(shape, list))
+}
+
+// The count of failing checks in a received word.
+#[no_mangle]
+pub extern "C" fn mlgd_failing(
+    n: u16,
+    m: u16,
+    rho: u16,
+    gamma: u16,
+    list: &[u16],
+    received: &[u8],
+) -> u64
+    ensures { λ r. ⌜ r ≡ codeOf (failingOf (matrix n m rho gamma (now (list .entry))) (now (received .entry))) ⌝ }
+{
+    let shape = Shape { n, m, rho, gamma };
+    counted_code(syndrome::failing(shape, list, received))
+}
+
+// One-step voting.
+#[no_mangle]
+pub extern "C" fn mlgd_one_step(
+    n: u16,
+    m: u16,
+    rho: u16,
+    gamma: u16,
+    list: &[u16],
+    received: &[u8],
+    word: &mut [u8],
+) -> u64
+    ensures answer { λ r. ⌜ r ≡ codeOf (oneStepOf (matrix n m rho gamma (now (list .entry))) (now (received .entry)) (length (now (word .entry)))) ⌝ }
+    ensures word { λ r. ⌜ now (word .exit) ≡ written (oneStepVerdict (matrix n m rho gamma (now (list .entry))) (now (received .entry)) (length (now (word .entry)))) (oneStepWord (matrix n m rho gamma (now (list .entry))) (now (received .entry))) (now (word .entry)) ⌝ }
+{
+    let shape = Shape { n, m, rho, gamma };
+    let a = one_step::one_step(shape, list, received, word);
+    answer_code(a)
+}
+
+// One-step voting on a matrix that the check has accepted, a word and a buffer that suit it: for the benchmark alone, which asks `mlgd_check` first.
+#[no_mangle]
+pub extern "C" fn mlgd_one_step_accepted(
+    n: u16,
+    m: u16,
+    rho: u16,
+    gamma: u16,
+    list: &[u16],
+    received: &[u8],
+    word: &mut [u8],
+) -> u64
+    requires { ⌜ Lent (matrix n m rho gamma (now list)) (now received) (now word) ⌝ }
+    ensures answer { λ r. ⌜ r ≡ codeOf (oneStepReport (matrix n m rho gamma (now (list .entry))) (bitAt (now (received .entry)))) ⌝ }
+    ensures word { λ r. ⌜ now (word .exit) ≡ over (oneStepWord (matrix n m rho gamma (now (list .entry))) (now (received .entry))) (now (word .entry)) ⌝ }
+{
+    let shape = Shape { n, m, rho, gamma };
+    report_code(one_step::one_step_accepted(shape, list, received, word))
+}

@@ -1,0 +1,28 @@
+-- Words that agree below n vote alike: every definition reads the bits of the code alone. Assumes nothing.
+use mathlib.Core.Path.{_≡_, ap, ap₂, _∙_}
+use mathlib.Core.Bool.{Bool, cond}
+use Prim.Native.Nat.{ℕ, _*_, _<_}
+use lib.Dec.{ltb, eqb}
+use Rattle.counting.proofs.Sums.{sum-cong}
+use Rattle.parity_check.specs.Code.{Matrix, has, weight, fails, failing}
+use Rattle.parity_check.specs.Reading.{Rows}
+use Rattle.parity_check.proofs.Rows.{fails-cong, failing-cong}
+use Rattle.majority_logic.specs.Voting.{votes, flipWhen, flipped}
+use Rattle.majority_logic.specs.OneStep.{stepWord, stepRounds}
+
+module _ (H : Matrix) (r : Rows H) (z c : ℕ → ℕ) (agree : (j : ℕ) → j < H .n → z j ≡ c j) where
+  pub votes-cong : (j : ℕ) → votes H z j ≡ votes H c j
+  unfolding votes
+  votes-cong j = sum-cong (H .m) (λ i h. ap (λ (x : ℕ). has H i j * x) (fails-cong H r z c agree i h))
+
+  pub flipped-cong : (j : ℕ) → j < H .n → flipped H z j ≡ flipped H c j
+  unfolding flipped
+  flipped-cong j h = ap₂ (λ (v b : ℕ). flipWhen (ltb (weight H j) (2 * v)) b) (votes-cong j) (agree j h)
+
+  pub stepRounds-cong : stepRounds H z ≡ stepRounds H c
+  unfolding stepRounds
+  stepRounds-cong = ap (λ (f : ℕ). cond (eqb f 0) 0 1) (failing-cong H r z c agree)
+
+  pub stepWord-cong : (j : ℕ) → j < H .n → stepWord H z j ≡ stepWord H c j
+  unfolding stepWord
+  stepWord-cong j h = rw (failing-cong H r z c agree, agree j h, flipped-cong j h)

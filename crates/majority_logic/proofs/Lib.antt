@@ -1,0 +1,4 @@
+pub mod Agreement
+pub mod Votes
+pub mod Correction
+pub mod FlippingRule

@@ -1,0 +1,50 @@
+-- `one_step::answered` meets its contract: the matrix check's refusal, else what follows on the accepted matrix. Assumes nothing.
+use mathlib.Core.Path.{refl, sym, ap, _∙_}
+use mathlib.Core.List.{List}
+use Prim.Native.Nat.{ℕ}
+use borrow.Author.Needs.{needs}
+use Rattle.answers.specs.Answers.{verdictOf, numberOf, placeOf}
+use Rattle.parity_check.specs.Shapes.{matrixOf}
+use Rattle.parity_check.proofs.Reading.{accepted-is}
+use Rattle.one_step.proofs.Answering.{refused-matrix}
+use Rattle.one_step.proofs.answered.Statement.{statement}
+use Rattle.one_step.proofs.answered.Tie as tie
+
+check-requires : tie.Need-check-requires
+check-requires c κs = search needs
+
+enum-told : tie.Need-enum-told
+enum-told c = search needs
+
+on-accepted-requires : tie.Need-on-accepted-requires
+on-accepted-requires c κs =
+    let a = c .before .before .before .before .before .before .before .args in
+    accepted-is (matrixOf (a .shape) (a .list .now)) (sym (c .before .before .before .check .ensures) ∙ ap verdictOf (c .before .enum-told .given .1))
+
+enum-known-f : tie.Need-enum-known-f
+enum-known-f c = search needs
+
+same-length : tie.Need-same-length
+same-length c = search needs
+
+returns : tie.Need-returns
+returns c = search needs
+
+returns-2 : tie.Need-returns-2
+returns-2 c =
+    let a = c .before .before .before .before .before .before .before .args in
+    let f = c .before .f .given in
+    refused-matrix (matrixOf (a .shape) (a .list .now)) (a .received .now) (a .word .now) (numberOf (f .0 .0)) (placeOf (f .0 .0)) _
+    (sym (c .before .before .before .check .ensures) ∙ ap verdictOf (f .1)) refl
+
+pub answered-spec : {M : Type 1} → statement M
+answered-spec =
+    tie.close
+    (tie.spec
+    check-requires
+    enum-told
+    on-accepted-requires
+    enum-known-f
+    same-length
+    returns
+    returns-2)

@@ -1,0 +1,44 @@
+-- `one_step::vote` meets its contract: the tally, and where a check fails the flips and the count, are the definition's. Assumes nothing.
+use borrow.Author.Needs.{needs}
+use Rattle.parity_check.specs.Code.{Matrix, Word}
+use Rattle.parity_check.specs.Shapes.{matrixOf}
+use Rattle.one_step.proofs.Voting.{stepped-clean, stepped-voted, voted-bits}
+use Rattle.one_step.proofs.vote.Statement.{statement}
+use Rattle.one_step.proofs.vote.Tie as tie
+
+tally-requires : tie.Need-tally-requires
+tally-requires c κs = search needs
+
+returns : tie.Need-returns
+returns c =
+    let s = c .before .before .before .before .before in
+    let H : Matrix = matrixOf (s .args .shape) (s .args .list .now) in
+    let t = c .before .tally in
+    stepped-clean H (s .pre .0) (s .args .bits .now) (t .last .1 .1 .1 .0) (t .result) (t .ensures) (c .if1 .taken)
+
+flip-all-requires : tie.Need-flip-all-requires
+unfolding Word
+flip-all-requires c κs =
+    let s = c .before .before .before .before .before .before .before in
+    (s .pre .0 .sizes .n-most, s .pre .1)
+
+failing-count-requires : tie.Need-failing-count-requires
+failing-count-requires c κs =
+    let s = c .before .before .before .before .before .before .before .before .before in
+    let H : Matrix = matrixOf (s .args .shape) (s .args .list .now) in
+    let t = c .before .before .before .before .before .tally in
+    let f = c .before .flip-all in
+    (s .pre .0, voted-bits H (s .pre .0) (s .args .bits .now) (t .last .1 .1 .1 .0) (t .result) (t .ensures) (f .last .1 .1 .0) (f .ensures) (s .pre .1))
+
+returns-2 : tie.Need-returns-2
+returns-2 c =
+    let s = c .before .before .before .before .before .before .before .before .before .before in
+    let H : Matrix = matrixOf (s .args .shape) (s .args .list .now) in
+    let t = c .before .before .before .before .before .before .tally in
+    let f = c .before .before .flip-all in
+    stepped-voted H (s .pre .0) (s .args .bits .now) (t .last .1 .1 .1 .0) (t .result) (t .ensures) (f .last .1 .1 .0) (c .failing-count .result) (c .before .before .before .before .before .if1 .left)
+    (f .ensures) (c .failing-count .ensures)
+
+pub vote-spec : {M : Type 1} → statement M
+vote-spec =
+    tie.close (tie.spec tally-requires returns flip-all-requires failing-count-requires returns-2)

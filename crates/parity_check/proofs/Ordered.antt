@@ -1,0 +1,32 @@
+-- What the earlier refusals leave to the later ones: where entries stand, and what they are. Assumes nothing.
+use mathlib.Core.Path.{_≡_}
+use mathlib.Core.Bool.{false}
+use mathlib.Core.Logic.{inl}
+use Prim.Native.Nat.{ℕ, suc, _+_, _*_, _≤_, _<_}
+use native.Mathlib.Decide.{decLt}
+use native.Mathlib.Omega.{arith}
+use lib.ListN.{length}
+use Rattle.parity_check.specs.Code.{Matrix, entry}
+use Rattle.parity_check.specs.Check.{badEntry}
+use Rattle.parity_check.specs.Walking.{Sized, Ordered, listAt}
+use Rattle.parity_check.proofs.Rows.{few-entries, stands}
+use Rattle.parity_check.proofs.Reading.{entry-clear, clear-below, clear-ascending}
+
+module _ {H : Matrix} (z : Sized H) where
+  pub few : length (H .list) ≤ 32736
+  few = omega (arith, z .whole, few-entries H (z .sizes))
+
+  pub in-list : (i k : ℕ) → i < H .m → k < H .rho → i * H .rho + k < length (H .list)
+  in-list i k l h = stands H (z .whole) i k l h
+
+module _ {H : Matrix} (o : Ordered H) where
+  pub column-below : (i k : ℕ) → i < H .m → k < H .rho → entry H i k < 1023
+  column-below i k l h = omega (arith, clear-below H (o .sized .whole) (o .clear) i k l h, o .sized .sizes .n-most)
+
+  pub columns-ascend : (i k : ℕ) → i < H .m → suc k < H .rho → entry H i k < entry H i (suc k)
+  columns-ascend = clear-ascending H (o .sized .whole) (o .clear)
+
+-- an entry that is not bad is a column
+pub good-below : (H : Matrix) (p : ℕ) → badEntry H p ≡ false → listAt H p < H .n
+good-below H p e =
+    elim (decLt (listAt H p) (H .n)) [ yes l ↦ l | no f ↦ absurd (entry-clear H p e (inl (omega arith))) ]

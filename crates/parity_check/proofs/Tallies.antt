@@ -1,0 +1,77 @@
+-- Laws of tallies: an array that counts, for each column, how often it came. Assumes nothing.
+use mathlib.Core.Path.{_≡_, sym, ap, subst, _∙_}
+use mathlib.Core.Bool.{not}
+use mathlib.Core.List.{List}
+use Prim.Native.Nat.{ℕ, _+_, _*_, _≤_, _<_}
+use native.Mathlib.Nat.{mul-one}
+use native.Mathlib.Numerals.{add-one}
+use native.Mathlib.Decide.{ℕ-discrete}
+use native.Mathlib.Omega.{arith}
+use lib.Dec.{eqb}
+use lib.ListN.{length, getD, set, replicate, getD-replicate, length-replicate, length-set}
+use lib.Seq.{getD-set-same, getD-set-other}
+use Rattle.counting.specs.Sum.{sum, same}
+use Rattle.counting.specs.Search.{first}
+use Rattle.counting.proofs.Sums.{sum-bound, sum-cong, same-le, same-ne, same-refl}
+use Rattle.counting.proofs.Searches.{first-cong}
+use Rattle.parity_check.specs.Code.{Matrix, entry, has, weight, common}
+use Rattle.parity_check.specs.Check.{badWeight}
+use Rattle.parity_check.specs.Walking.{Tally, listAt, markAt, offWeight}
+use Rattle.parity_check.proofs.Rows.{weight-flat, common-sym}
+
+module _ (f : ℕ → ℕ) where
+  pub tally-none : Tally f 0 (replicate 1023 0)
+  unfolding sum
+  tally-none = record { long = length-replicate {A = ℕ} 1023 0; each = λ j l. getD-replicate 1023 j 0 0 l }
+
+  -- one more is counted
+  counted : (k : ℕ) (v : List ℕ) → Tally f k v → f k < 1023 → Tally f (k + 1) (set v (f k) (getD v (f k) 0 + 1))
+  unfolding sum
+  counted k v t h =
+      record {
+        long = length-set v (f k) (getD v (f k) 0 + 1) ∙ t .long;
+        each = λ j l.
+            rw (add-one k)
+            (elim (ℕ-discrete j (f k)) [
+              | yes e ↦
+                  ap (λ (x : ℕ). getD (set v (f k) (getD v (f k) 0 + 1)) x 0) e
+                  ∙ getD-set-same v (f k) (getD v (f k) 0 + 1) 0 (omega (arith, t .long))
+                  ∙ omega (arith, ap (λ (x : ℕ). getD v x 0) e, t .each j l, ap (same (f k)) e, same-refl (f k))
+              | no ne ↦
+                  getD-set-other v (f k) j (getD v (f k) 0 + 1) 0 ne
+                  ∙ omega (arith, t .each j l, same-ne (f k) j (λ e. ne (sym e)))
+            ]);
+      }
+
+  pub tally-more : (k x : ℕ) (v v′ : List ℕ) → Tally f k v → x ≡ f k → f k < 1023 → v′ ≡ set v x (getD v x 0 + 1) → Tally f (k + 1) v′
+  tally-more k x v v′ t e h s =
+      subst (Tally f (k + 1)) (sym (s ∙ ap (λ (y : ℕ). set v y (getD v y 0 + 1)) e)) (counted k v t h)
+
+  -- no more than are counted
+  pub tally-le : (k : ℕ) (v : List ℕ) → Tally f k v → (j : ℕ) → j < 1023 → getD v j 0 ≤ k
+  tally-le k v t j l = omega (arith, t .each j l, sum-bound k 1 {f = λ x. same (f x) j} (λ x h. same-le (f x) j), mul-one k)
+
+module _ (H : Matrix) where
+  -- the tally of the whole list has the weights
+  pub tally-weight : (v : List ℕ) → length (H .list) ≡ H .m * H .rho → Tally (listAt H) (length (H .list)) v → (j : ℕ) → j < 1023 → getD v j 0 ≡ weight H j
+  tally-weight v whole t j l = t .each j l ∙ ap (λ (k : ℕ). sum k (λ p. same (listAt H p) j)) whole ∙ sym (weight-flat H j)
+
+  pub tally-off : (v : List ℕ) → H .n ≤ 1023 → length (H .list) ≡ H .m * H .rho → Tally (listAt H) (length (H .list)) v
+      → first (offWeight (H .gamma) v) (H .n) ≡ first (badWeight H) (H .n)
+  unfolding offWeight badWeight
+  tally-off v most whole t =
+      first-cong (offWeight (H .gamma) v) (badWeight H) (H .n)
+      (λ j l. ap (λ (x : ℕ). not (eqb x (H .gamma))) (tally-weight v whole t j (omega arith)))
+
+  -- the marks of a row at the columns of another add up to what they share
+  pub tally-common : (i i′ : ℕ) (v : List ℕ) → Tally (entry H i) (H .rho) v → ((k : ℕ) → k < H .rho → entry H i′ k < 1023)
+      → sum (H .rho) (markAt H i′ v) ≡ common H i i′
+  unfolding common has markAt
+  tally-common i i′ v t below = sum-cong (H .rho) (λ k h. t .each (entry H i′ k) (below k h)) ∙ common-sym H i′ i
+
+  -- and stay small on the way
+  pub marks-le : (i i′ : ℕ) (v : List ℕ) → H .rho ≤ 32 → Tally (entry H i) (H .rho) v → ((k : ℕ) → k < H .rho → entry H i′ k < 1023)
+      → (k : ℕ) → k ≤ H .rho → sum k (markAt H i′ v) ≤ k * 32
+  unfolding markAt
+  marks-le i i′ v most t below k h =
+      sum-bound k 32 (λ x l. omega (arith, tally-le (entry H i) (H .rho) v t (entry H i′ x) (below x (omega arith))))

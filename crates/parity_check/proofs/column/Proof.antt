@@ -1,0 +1,53 @@
+-- `parity_check::column` meets its contract. Assumes nothing.
+use mathlib.Core.Path.{refl}
+use Prim.Native.Nat.{_+_, _*_}
+use native.Mathlib.Omega.{arith}
+use borrow.Author.Needs.{needs}
+use Rattle.parity_check.specs.Code.{entry}
+use Rattle.parity_check.proofs.Ordered.{few, in-list}
+use Rattle.parity_check.proofs.column.Statement.{statement}
+use Rattle.parity_check.proofs.column.Tie as tie
+
+cast-rho : tie.Need-cast-rho
+cast-rho c = search needs
+
+mul-result : tie.Need-mul-result
+mul-result c =
+    let p = c .before .pre in
+    omega (arith, in-list (p .0) _ _ (p .1) (p .2), few (p .0))
+
+add-result : tie.Need-add-result
+add-result c =
+    let p = c .before .pre in
+    omega (arith, in-list (p .0) _ _ (p .1) (p .2), few (p .0))
+
+mul-result-2 : tie.Need-mul-result-2
+mul-result-2 c =
+    let p = c .before .pre in
+    omega (arith, in-list (p .0) _ _ (p .1) (p .2), few (p .0))
+
+shared-slice-read-result : tie.Need-shared-slice-read-result
+shared-slice-read-result c =
+    let p = c .before .before .pre in
+    in-list (p .0) _ _ (p .1) (p .2)
+
+cast-result : tie.Need-cast-result
+cast-result c =
+    let a = c .before .before .args in
+    omega (arith, c .shared-slice-known .given (a .i * a .shape .rho + a .k))
+
+returns : tie.Need-returns
+unfolding entry
+returns c = refl
+
+pub column-spec : {M : Type 1} → statement M
+column-spec =
+    tie.close
+    (tie.spec
+    cast-rho
+    mul-result
+    add-result
+    mul-result-2
+    shared-slice-read-result
+    cast-result
+    returns)

@@ -1,0 +1,4 @@
+pub mod Parity
+pub mod Listing
+pub mod Verdicts
+pub mod Unpacking

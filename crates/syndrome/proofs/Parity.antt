@@ -1,0 +1,77 @@
+-- Laws of row parities: a row of an accepted matrix is a part of the list, and the parity of the bits there is its check. Assumes nothing.
+use mathlib.Core.Path.{_≡_, refl, _∙_}
+use mathlib.Core.List.{List}
+use Prim.Native.Nat.{ℕ, zero, suc, _+_, _*_, _%_, _≤_, _<_}
+use native.Mathlib.Nat.{mul-le-mul-right, le-of-suc-le-suc}
+use native.Mathlib.Numerals.{add-one}
+use native.Mathlib.Omega.{arith}
+use lib.Bits.{bitXor}
+use Rattle.counting.specs.Sum.{sum}
+use Rattle.counting.proofs.Sums.{sum-bound}
+use Rattle.packed_word.specs.Steps.{at}
+use Rattle.parity_check.specs.Code.{Matrix, entry, Word, fails}
+use Rattle.parity_check.specs.Reading.{Accepted}
+use Rattle.parity_check.proofs.Rows.{few-entries}
+use Rattle.syndrome.specs.Places.{Part, ones, Checks, rowFails}
+
+-- of bits, `^` is the sum's parity
+pub xor-bits : (x b : ℕ) → x < 2 → b < 2 → bitXor x b ≡ (x + b) % 2
+xor-bits zero zero h k = refl
+xor-bits zero (suc zero) h k = refl
+xor-bits zero (suc (suc b)) h k = absurd (omega arith)
+xor-bits (suc zero) zero h k = refl
+xor-bits (suc zero) (suc zero) h k = refl
+xor-bits (suc zero) (suc (suc b)) h k = absurd (omega arith)
+xor-bits (suc (suc x)) b h k = absurd (omega arith)
+
+-- one bit more in a parity
+pub parity-step : (l : List ℕ) (from k : ℕ) (z : ℕ → ℕ) (x : ℕ) → z (at l (from + k)) < 2 → x ≡ ones l from k z % 2
+    → bitXor x (z (at l (from + k))) ≡ ones l from (k + 1) z % 2
+unfolding ones sum
+parity-step l from k z x h e = rw (add-one k) (xor-bits x (z (at l (from + k))) (omega arith) h ∙ omega arith)
+
+module _ (H : Matrix) (a : Accepted H) where
+  -- row i as a part of the list
+  pub row-part : (i : ℕ) → i < H .m → Part (H .list) (i * H .rho) (H .rho)
+  unfolding entry
+  row-part i h =
+      let e : i * H .rho + H .rho ≤ H .m * H .rho = omega (arith, mul-le-mul-right (H .rho) h) in
+      record {
+        room = omega (arith, a .rows .whole);
+        short = omega (arith, few-entries H (a .sizes));
+        below = λ k l. omega (arith, a .rows .below i k h l, a .sizes .n-most);
+      }
+
+  -- a word has bits at every row
+  pub checks : (z : ℕ → ℕ) → Word H z → Checks (H .list) (H .m) (H .rho) z
+  unfolding Word entry
+  checks z w =
+      record {
+        few = a .sizes .m-most;
+        part = row-part;
+        bits = λ i h k l. w (at (H .list) (i * H .rho + k)) (a .rows .below i k h l);
+      }
+
+-- the parity of the bits at a row is its check
+pub row-fails : (H : Matrix) (z : ℕ → ℕ) → rowFails (H .list) (H .rho) z ≡ fails H z
+unfolding rowFails ones fails entry
+row-fails H z = refl
+
+-- the parity as it is computed
+pub row-is : (l : List ℕ) (rho : ℕ) (z : ℕ → ℕ) (i x : ℕ) → x ≡ ones l (i * rho) rho z % 2 → x ≡ rowFails l rho z i
+unfolding rowFails
+row-is l rho z i x e = e
+
+pub row-bit : (l : List ℕ) (rho : ℕ) (z : ℕ → ℕ) (i : ℕ) → rowFails l rho z i < 2
+unfolding rowFails
+row-bit l rho z i = omega arith
+
+-- one check more in a count, which stays within the rows
+pub count-step : (l : List ℕ) (rho : ℕ) (z : ℕ → ℕ) (i f x : ℕ) → f ≡ sum i (rowFails l rho z) → x ≡ rowFails l rho z i
+    → f + x ≡ sum (i + 1) (rowFails l rho z)
+unfolding sum
+count-step l rho z i f x e r = rw (add-one i) (omega arith)
+
+pub count-most : (l : List ℕ) (rho : ℕ) (z : ℕ → ℕ) (i : ℕ) → sum i (rowFails l rho z) ≤ i
+count-most l rho z i =
+    omega (arith, sum-bound i 1 {f = rowFails l rho z} (λ k h. le-of-suc-le-suc (row-bit l rho z k)))

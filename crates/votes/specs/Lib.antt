@@ -1,0 +1,2 @@
+-- What the contracts of `votes` cite.
+pub mod Tallies

@@ -1,0 +1,3 @@
+-- The worked examples and their proof.
+pub mod Calls
+pub mod Table

@@ -1,0 +1,33 @@
+//! The comparison of the Rattle library with the reference: every answer whole, and every cell
+//! that was lent, in refused calls too.
+//!
+//! FUZZ_N multiplies the number of random cases, FUZZ_SEED chooses others.
+
+mod guarded;
+mod subject;
+
+pub use guarded::Guarded;
+pub use subject::Subject;
+
+use generator::Random;
+
+/// A number from the environment.
+fn setting(name: &str, default: u64) -> u64 {
+    match std::env::var(name) {
+        Ok(text) => text
+            .parse()
+            .unwrap_or_else(|_| panic!("{name} is not a number: {text}")),
+        Err(_) => default,
+    }
+}
+
+/// How many random cases a test tries: `base` times FUZZ_N.
+pub fn cases(base: usize) -> usize {
+    base * setting("FUZZ_N", 1) as usize
+}
+
+/// The random numbers of one test.
+pub fn random(test: u64) -> Random {
+    let mut seeds = Random::new(setting("FUZZ_SEED", 0));
+    Random::new(seeds.number() ^ test)
+}

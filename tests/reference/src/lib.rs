@@ -1,0 +1,20 @@
+//! The literal decoder of document 01, a second opinion for the tests.
+//!
+//! Each function is one passage of the document, done the slow way it is said: all rows are
+//! searched for a bit's checks, all pairs of rows are compared, words are lists of bits. The
+//! passage stands in quotation marks above it.
+
+// The document's own arithmetic is kept.
+#![allow(clippy::manual_div_ceil, clippy::manual_is_multiple_of)]
+
+mod matrix;
+mod one_step;
+mod refusal;
+mod word;
+
+pub use matrix::{check, Matrix};
+pub use one_step::{
+    failing, failing_accepted, failing_checks, one_step, one_step_accepted, Answer, Outcome,
+};
+pub use refusal::Refusal;
+pub use word::{byte_count, pack, unpack};

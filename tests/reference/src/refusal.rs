@@ -1,0 +1,21 @@
+/// "Refused for the input": "Each has a place, 0 unless named."
+#[derive(Clone, Copy, Debug, PartialEq, Eq)]
+pub struct Refusal {
+    pub number: u16,
+    pub place: u16,
+}
+
+impl Refusal {
+    /// A refusal whose place is not named.
+    pub fn plain(number: u16) -> Refusal {
+        Refusal { number, place: 0 }
+    }
+
+    /// A refusal with its place. Every place is an index below 1,023 × 32.
+    pub fn at(number: u16, place: usize) -> Refusal {
+        Refusal {
+            number,
+            place: u16::try_from(place).expect("a place fits 16 bits"),
+        }
+    }
+}
