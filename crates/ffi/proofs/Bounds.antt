@@ -5,8 +5,10 @@ use mathlib.Core.List.{List}
 use Prim.Native.Nat.{ℕ, _≤_, _<_}
 use native.Mathlib.Omega.{arith}
 use lib.Dec.{eqb}
+use lib.Ieee.{Float}
 use Rattle.counting.specs.Sum.{sum}
 use Rattle.counting.proofs.Sums.{sum-bound}
+use Rattle.counting.proofs.Searches.{cases}
 use Rattle.answers.specs.Paper.{Verdict, accepted, refused, Said, report, andThen, after}
 use Rattle.packed_word.specs.Packed.{bitAt}
 use Rattle.packed_word.proofs.Distances.{distance-le}
@@ -17,6 +19,10 @@ use Rattle.parity_check.proofs.Rows.{fails-bit}
 use Rattle.parity_check.proofs.Reading.{accepted-is}
 use Rattle.syndrome.specs.Failing.{failingVerdict, failingOf}
 use Rattle.majority_logic.specs.OneStep.{stepWord, stepRounds, oneStepReport, oneStepVerdict, oneStepOf}
+use Rattle.quantiser.specs.Samples.{Choice, settingFits, largest, hardBit}
+use Rattle.quantiser.proofs.Ranges.{fits-reads}
+use Rattle.iterative.specs.Iterative.{startOf, changedBits, endFrom, reportAt, iterativeVerdict, iterativeOf}
+use Rattle.iterative.proofs.Ends.{rounds-within}
 use Rattle.ffi.specs.Codes.{Small, Room}
 
 -- no more checks fail than there are
@@ -59,3 +65,23 @@ report-small H a z =
 pub one-step-small : (H : Matrix) (w : List ℕ) (room : ℕ) → Small (oneStepOf H w room)
 unfolding oneStepOf oneStepVerdict
 one-step-small H w room = after-small (checkOf H) _ _ (λ e. report-small H (accepted-is H e) (bitAt w))
+
+-- iterative voting: its rounds are within the round limit
+pub iterative-small : (H : Matrix) (S : Choice) (xs : List Float) (b l : ℕ) → Small (iterativeOf H S xs b l)
+unfolding iterativeOf iterativeVerdict reportAt endFrom changedBits
+iterative-small H S xs b l =
+    cases (settingFits S) (λ y. after-small (checkOf H) _ _ (fit y)) (λ n. rw n (six (checkOf H) _))
+  where
+    six : (v : Verdict) (s : Said) → Small (after (andThen v (refused 6 0)) s)
+    six accepted s = tt
+    six (refused k x) s = tt
+
+    fit : settingFits S ≡ true → checkOf H ≡ accepted → Small (reportAt H (hardBit xs) (endFrom H S xs))
+    fit y e =
+        let a = accepted-is H e .sizes in
+        let t = endFrom H S xs in
+        record {
+          rounds = omega (arith, rounds-within H (largest (S .bits)) (S .limit) (startOf S xs), fits-reads S y .limit);
+          failing = omega (arith, failing-le H (t .last .z), a .m-most);
+          changed = omega (arith, distance-le (H .n) (t .last .z) (hardBit xs), a .n-most);
+        }

@@ -6,6 +6,8 @@ use answers::Counted;
 use answers::Refusal;
 use answers::Report;
 use parity_check::Shape;
+use quantiser::Setting;
+use quantiser::Step;
 ghost use mathlib.Core.Path.{_≡_};
 ghost use Prim.Native.Nat.{_+_, _*_};
 ghost use lib.ListN.{length};
@@ -18,7 +20,9 @@ ghost use Rattle.parity_check.specs.Check.{checkOf};
 ghost use Rattle.syndrome.specs.Failing.{failingOf};
 ghost use Rattle.majority_logic.specs.OneStep.{oneStepReport, oneStepVerdict, oneStepOf, oneStepWord};
 ghost use Rattle.one_step.specs.Stepped.{Lent};
+ghost use Rattle.quantiser.specs.Settings.{choiceOf};
 ghost use Rattle.ffi.specs.Codes.{codeOf, Small};
+ghost use Rattle.ffi.specs.Settings.{choice, StandsFor, QuantisedAs, DecodedAs};
 
 // A refusal: its number and its place.
 fn refusal_code(f: Refusal) -> u64
@@ -115,6 +119,73 @@ pub extern "C" fn mlgd_one_step(
 {
     let shape = Shape { n, m, rho, gamma };
     let a = one_step::one_step(shape, list, received, word);
+    answer_code(a)
+}
+
+// The setting of a kind of step and a step. A third kind is given a step that is out of range, so that it is refused as 6 too.
+fn setting_of(bits: u16, limit: u16, kind: u16, step: f32) -> Setting
+    ensures { λ r. ⌜ StandsFor (choice bits limit kind step) (choiceOf r) ⌝ }
+{
+    if kind == 0 {
+        return Setting {
+            bits,
+            limit,
+            step: Step::Level(step),
+        };
+    }
+    if kind == 1 {
+        return Setting {
+            bits,
+            limit,
+            step: Step::FullScale(step),
+        };
+    }
+    Setting {
+        bits,
+        limit,
+        step: Step::Level(0.0),
+    }
+}
+
+// The quantiser.
+#[no_mangle]
+pub extern "C" fn mlgd_quantise(
+    bits: u16,
+    limit: u16,
+    kind: u16,
+    step: f32,
+    samples: &[f32],
+    levels: &mut [i8],
+    word: &mut [u8],
+) -> u64
+    ensures { λ r. ⌜ QuantisedAs (choice bits limit kind step) (now (samples .entry)) r (now (levels .entry)) (now (levels .exit)) (now (word .entry)) (now (word .exit)) ⌝ }
+{
+    let setting = setting_of(bits, limit, kind, step);
+    let a = quantiser::quantise(setting, samples, levels, word);
+    checked_code(a)
+}
+
+// Iterative voting.
+#[no_mangle]
+pub extern "C" fn mlgd_iterative(
+    n: u16,
+    m: u16,
+    rho: u16,
+    gamma: u16,
+    list: &[u16],
+    bits: u16,
+    limit: u16,
+    kind: u16,
+    step: f32,
+    samples: &[f32],
+    word: &mut [u8],
+    levels: &mut [i8],
+) -> u64
+    ensures { λ r. ⌜ DecodedAs (matrix n m rho gamma (now (list .entry))) (choice bits limit kind step) (now (samples .entry)) r (now (word .entry)) (now (word .exit)) (now (levels .entry)) (now (levels .exit)) ⌝ }
+{
+    let shape = Shape { n, m, rho, gamma };
+    let setting = setting_of(bits, limit, kind, step);
+    let a = iterative::iterative(shape, list, setting, samples, word, levels);
     answer_code(a)
 }
 

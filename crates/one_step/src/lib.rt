@@ -2,18 +2,14 @@
 // Rests on `votes`, `syndrome`, `packed_word` and `parity_check`. Document 01: "One-step voting"; refusals 1 to 5, 7 and 9.
 use answers::Answer;
 use answers::Checked;
-use answers::Outcome;
 use answers::Refusal;
 use answers::Report;
 use parity_check::Shape;
-ghost use mathlib.Core.Path.{_≡_};
-ghost use Rattle.answers.specs.Paper.{report};
 ghost use Rattle.answers.specs.Answers.{reportOf, saidOf};
 ghost use Rattle.packed_word.specs.Steps.{at};
 ghost use Rattle.parity_check.specs.Code.{Word};
 ghost use Rattle.parity_check.specs.Reading.{Accepted};
 ghost use Rattle.parity_check.specs.Shapes.{matrixOf};
-ghost use Rattle.majority_logic.specs.OneStep.{outcomeBy};
 ghost use Rattle.majority_logic.specs.Claims.{FlippingRule};
 ghost use Rattle.one_step.specs.Stepped.{Stepped, Lent, Voted, Answered};
 
@@ -44,26 +40,6 @@ fn vote(shape: Shape, list: &[u16], bits: &mut [u8; 1023]) -> Tally
     }
 }
 
-// A report: decoded where no check fails, else failed.
-pub fn ended(rounds: u16, failing: u16, changed: u16) -> Report
-    ensures { λ r. ⌜ reportOf r ≡ report (outcomeBy failing) rounds failing changed ⌝ }
-{
-    if failing == 0 {
-        return Report {
-            outcome: Outcome::Decoded,
-            rounds,
-            failing,
-            changed,
-        };
-    }
-    Report {
-        outcome: Outcome::Failed,
-        rounds,
-        failing,
-        changed,
-    }
-}
-
 // The core, for a matrix that the check has accepted: its caller has asked the refusals.
 pub fn one_step_accepted(shape: Shape, list: &[u16], received: &[u8], word: &mut [u8]) -> Report
     requires { ⌜ Lent (matrixOf shape (now list)) (now received) (now word) ⌝ }
@@ -76,7 +52,7 @@ pub fn one_step_accepted(shape: Shape, list: &[u16], received: &[u8], word: &mut
     let v = vote(shape, list, &mut bits);
     packed_word::pack_into(&bits, n, word);
     let changed = packed_word::differing(&word[..need], received);
-    ended(v.rounds, v.failing, changed)
+    votes::ended(v.rounds, v.failing, changed)
 }
 
 // The refusals after the matrix check, then the vote.

@@ -1,7 +1,7 @@
 -- Laws of lists of places: one place more is looked at, and a sum over a list of places. Assumes nothing.
 use mathlib.Core.Path.{_≡_, refl, sym, ap, _∙_}
 use mathlib.Core.List.{List}
-use Prim.Native.Nat.{ℕ, zero, suc, _+_, _*_, _<_, _≤_}
+use Prim.Native.Nat.{ℕ, zero, suc, _+_, _*_, _<_}
 use native.Mathlib.Nat.{add-zero}
 use native.Mathlib.Numerals.{add-one}
 use native.Mathlib.Decide.{ℕ-discrete}
@@ -69,13 +69,10 @@ module _ (f : ℕ → ℕ) (i : ℕ) (l : List ℕ) (t : ℕ) (p : Places f i l 
       }
 
   -- one place more
-  pub places-step : f i < 2 → Places f (i + 1) next (t + f i)
-  places-step small = go (f i) refl small
-    where
-      go : (b : ℕ) → f i ≡ b → b < 2 → Places f (i + 1) next (t + b)
-      go zero e h = left-out e
-      go (suc zero) e h = taken-in e
-      go (suc (suc b)) e h = absurd (omega arith)
+  pub places-step : (x : ℕ) → x ≡ f i → x < 2 → Places f (i + 1) next (t + x)
+  places-step zero e h = left-out (sym e)
+  places-step (suc zero) e h = taken-in (sym e)
+  places-step (suc (suc x)) e h = absurd (omega arith)
 
 -- a sum over a list of places is one over all places
 pub places-sum : (f : ℕ → ℕ) (m : ℕ) (l : List ℕ) (t : ℕ) → Places f m l t → (g : ℕ → ℕ) → sum t (λ q. g (at l q)) ≡ sum m (λ x. f x * g x)

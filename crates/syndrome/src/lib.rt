@@ -49,7 +49,7 @@ fn list_failing(list: &[u16], m: usize, rho: usize, bits: &[u8; 1023], rows: &mu
     t
 }
 
-// The rows of an accepted matrix whose checks fail.
+// The rows of an accepted matrix whose checks fail. The array is lent as a slice, since the loan tells the proof its length.
 pub fn failing_rows(shape: Shape, list: &[u16], bits: &[u8; 1023], rows: &mut [u16; 1023]) -> usize
     requires { ⌜ Accepted (matrixOf shape (now list)) × Word (matrixOf shape (now list)) (at (now bits)) ⌝ }
     ensures { λ r. ⌜ Places (fails (matrixOf shape (now (list .entry))) (at (now (bits .entry)))) (shape .m) (now (rows .exit)) r ⌝ }

@@ -1,5 +1,5 @@
 -- Laws of votes added row by row: one column more, one row more, and what all failing rows add. Assumes nothing.
-use mathlib.Core.Path.{_≡_, refl, sym, ap, _∙_}
+use mathlib.Core.Path.{_≡_, sym, _∙_}
 use mathlib.Core.List.{List}
 use mathlib.Core.Logic.{inl, inr}
 use Prim.Native.Nat.{ℕ, _+_, _*_, _<_, _≤_}
@@ -13,7 +13,7 @@ use Rattle.counting.proofs.Writing.{stored, zeros}
 use Rattle.packed_word.specs.Steps.{at}
 use Rattle.parity_check.specs.Code.{Matrix, entry, has, fails, failing}
 use Rattle.parity_check.specs.Reading.{Accepted}
-use Rattle.syndrome.specs.Places.{Part, Places}
+use Rattle.syndrome.specs.Places.{Places}
 use Rattle.syndrome.proofs.Parity.{row-part}
 use Rattle.syndrome.proofs.Listing.{places-sum}
 use Rattle.majority_logic.specs.Voting.{votes}

@@ -1,5 +1,7 @@
 // The votes of the failing checks on each bit, and the flips that they decide.
 // Rests on `syndrome` and the definitions of `majority_logic`. Document 01: "One-step voting".
+use answers::Outcome;
+use answers::Report;
 use parity_check::Shape;
 use syndrome::failing_rows;
 ghost use mathlib.Core.Path.{_≡_};
@@ -11,7 +13,10 @@ ghost use Rattle.parity_check.specs.Code.{Word};
 ghost use Rattle.parity_check.specs.Reading.{Accepted};
 ghost use Rattle.parity_check.specs.Shapes.{matrixOf};
 ghost use Rattle.syndrome.specs.Places.{Part};
+ghost use Rattle.answers.specs.Paper.{report};
+ghost use Rattle.answers.specs.Answers.{reportOf};
 ghost use Rattle.majority_logic.specs.Voting.{flipWhen};
+ghost use Rattle.majority_logic.specs.OneStep.{outcomeBy};
 ghost use Rattle.votes.specs.Tallies.{among, ofRows, Room, Parts, More, Tallied, Voted};
 
 // A vote more at each of `count` column numbers of the list.
@@ -40,7 +45,7 @@ fn add_rows(list: &[u16], rho: usize, rows: &[u16; 1023], count: usize, votes: &
     }
 }
 
-// Each bit's failing checks, and how many checks fail.
+// Each bit's failing checks, and how many checks fail. What the array held before does not matter.
 pub fn tally(shape: Shape, list: &[u16], bits: &[u8; 1023], votes: &mut [u8; 1023]) -> u16
     requires { ⌜ Accepted (matrixOf shape (now list)) × Word (matrixOf shape (now list)) (at (now bits)) ⌝ }
     ensures { λ r. ⌜ Tallied (matrixOf shape (now (list .entry))) (at (now (bits .entry))) (now (votes .exit)) r ⌝ }
@@ -54,7 +59,7 @@ pub fn tally(shape: Shape, list: &[u16], bits: &[u8; 1023], votes: &mut [u8; 102
 }
 
 // The bit b after the vote: turned over where more than half of its gamma checks fail, so that a tie keeps it.
-// The test is added to the bit and not branched on, since the votes of a noisy word can't be guessed.
+// The test is added to the bit and not branched on, since no branch could be guessed from noise.
 fn voted(gamma: u16, v: u8, b: u8) -> u8
     requires { ⌜ b < 2 ⌝ }
     ensures { λ r. ⌜ r ≡ flipWhen (ltb gamma (2 * v)) b ⌝ }
@@ -75,7 +80,7 @@ fn flip_front(votes: &[u8; 1023], n: usize, gamma: u16, bits: &mut [u8])
     }
 }
 
-// Every bit after the vote, all at once from the same votes.
+// Every bit after the vote, all at once from the same votes. The array is lent as a slice, since the loan tells the proof its length.
 pub fn flip_all(shape: Shape, votes: &[u8; 1023], bits: &mut [u8; 1023])
     requires { ⌜ (shape .n ≤ 1023) × ((j : ℕ) → j < shape .n → at (now bits) j < 2) ⌝ }
     ensures { λ _. ⌜ Voted (shape .n) (shape .gamma) (now (votes .entry)) (now (bits .entry)) (now (bits .exit)) ⌝ }
@@ -83,4 +88,24 @@ pub fn flip_all(shape: Shape, votes: &[u8; 1023], bits: &mut [u8; 1023])
     let n = shape.n as usize;
     let gamma = shape.gamma;
     flip_front(votes, n, gamma, bits);
+}
+
+// A report: decoded where no check fails, else failed.
+pub fn ended(rounds: u16, failing: u16, changed: u16) -> Report
+    ensures { λ r. ⌜ reportOf r ≡ report (outcomeBy failing) rounds failing changed ⌝ }
+{
+    if failing == 0 {
+        return Report {
+            outcome: Outcome::Decoded,
+            rounds,
+            failing,
+            changed,
+        };
+    }
+    Report {
+        outcome: Outcome::Failed,
+        rounds,
+        failing,
+        changed,
+    }
 }

@@ -1,12 +1,10 @@
 -- `syndrome::failing_accepted`: each way out is what the chain of refusals says, and the count is that of the unpacked word.
 use borrow.Author.Needs.{needs}
 use Prim.Native.Nat.{ℕ}
-use mathlib.Core.Path.{_≡_, sym, ap, _∙_}
-use mathlib.Core.List.{List}
+use mathlib.Core.Path.{sym, ap, _∙_}
 use native.Mathlib.Omega.{arith}
 use lib.ListN.{replicate}
-use Rattle.answers.specs.Paper.{Said, report}
-use Rattle.packed_word.specs.Steps.{at}
+use Rattle.answers.specs.Paper.{report}
 use Rattle.parity_check.specs.Shapes.{matrixOf}
 use Rattle.parity_check.proofs.Reading.{is-accepted}
 use Rattle.syndrome.proofs.Verdicts.{failing-buffer, failing-spare, failing-says}

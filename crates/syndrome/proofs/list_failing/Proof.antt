@@ -1,11 +1,11 @@
 -- `syndrome::list_failing`. The loop's invariant: the first `t` of `rows` are the rows below `i` whose checks fail, each once.
-use Prim.Native.Nat.{ℕ, _-_, _≤_}
-use mathlib.Core.Path.{_≡_, sym, _∙_}
+use Prim.Native.Nat.{_-_, _≤_}
+use mathlib.Core.Path.{sym, _∙_}
 use native.Mathlib.Nat.{le-antisymm}
 use native.Mathlib.Omega.{arith}
 use Rattle.packed_word.specs.Steps.{at}
 use Rattle.syndrome.specs.Places.{rowFails, Places}
-use Rattle.syndrome.proofs.Parity.{row-is, row-bit}
+use Rattle.syndrome.proofs.Parity.{row-is}
 use Rattle.syndrome.proofs.Listing.{places-none, places-step}
 use Rattle.syndrome.proofs.list_failing.Statement.{statement}
 use Rattle.syndrome.proofs.list_failing.Tie as tie
@@ -52,14 +52,13 @@ loop-less c = omega arith
 
 loop-again : tie.Need-loop-again Inv-loop μ-loop
 loop-again c =
-    let a = c .before .before .before .before .before .args in
+    let s = c .before .before .before .before .before in
     let o = c .before .before .loop in
-    let z = at (a .bits .now) in (
+    let x = c .row-parity .result in
+    let f = rowFails (s .args .list .now) (s .args .rho) (at (s .args .bits .now)) in (
       omega arith,
-      rw (row-is (a .list .now) (a .rho) z (o .i) (c .row-parity .result) (c .row-parity .ensures))
-          (places-step (rowFails (a .list .now) (a .rho) z) (o .i) (o .rows) (o .t) (o .inv .1)
-          (omega (arith, c .before .before .before .before .before .pre .0 .few))
-          (row-bit (a .list .now) (a .rho) z (o .i))),
+      places-step f (o .i) (o .rows) (o .t) (o .inv .1) (omega (arith, s .pre .0 .few)) x
+          (row-is (s .args .list .now) (s .args .rho) (at (s .args .bits .now)) (o .i) x (c .row-parity .ensures)) (omega (arith, c .row-parity .ensures)),
     )
 
 same-length : tie.Need-same-length Inv-loop μ-loop

@@ -1,5 +1,5 @@
 -- `votes::add_rows`. The loop's invariant: the columns of the first `q` listed rows have their votes.
-use Prim.Native.Nat.{ℕ, _-_, _≤_}
+use Prim.Native.Nat.{_-_, _≤_}
 use native.Mathlib.Nat.{le-antisymm}
 use native.Mathlib.Omega.{arith}
 use Rattle.votes.specs.Tallies.{ofRows, More}

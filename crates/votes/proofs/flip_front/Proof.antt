@@ -1,5 +1,5 @@
 -- `votes::flip_front`. The loop's invariant: the first `j` bits are voted on, the others are as they were.
-use Prim.Native.Nat.{ℕ, _-_, _≤_}
+use Prim.Native.Nat.{_-_, _≤_}
 use mathlib.Core.Path.{sym, _∙_}
 use native.Mathlib.Nat.{le-antisymm, le-refl}
 use native.Mathlib.Omega.{arith}

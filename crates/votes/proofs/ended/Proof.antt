@@ -1,7 +1,7 @@
--- `one_step::ended` meets its contract: the outcome by whether a check fails. Assumes nothing.
+-- `votes::ended` meets its contract: the outcome by whether a check fails. Assumes nothing.
 use borrow.Author.Tests.{eq-eqb, ne-eqb}
-use Rattle.one_step.proofs.ended.Statement.{statement}
-use Rattle.one_step.proofs.ended.Tie as tie
+use Rattle.votes.proofs.ended.Statement.{statement}
+use Rattle.votes.proofs.ended.Tie as tie
 
 returns : tie.Need-returns
 returns c = simp (eq-eqb _ _ (c .if1 .taken))

@@ -1,0 +1,60 @@
+-- Iterative soft voting on samples: the whole call. (Document 01, "Iterative voting"; refusals 1 to 8.)
+--   startOf S xs             == step 1: the hard bits and the levels
+--   changedBits H z r        == "changed": positions at which the word handed back differs from the received word
+--   endFrom H S xs           == the k and the state with which the list ends
+--   reportAt H r e           == the answer at the end e, r being the received word
+--   iterativeVerdict         == what is asked before
+--   iterativeOf              == what iterative voting says
+--   iterativeWord, iterativeLevels   == what it writes
+-- Assumes nothing.
+use Prim.Native.Nat.{ℕ}
+use mathlib.Core.Bool.{Bool, not, _||_}
+use mathlib.Core.List.{List}
+use lib.Dec.{eqb, ltb}
+use lib.IntN.{ℤ}
+use lib.Ieee.{Float, nan}
+use lib.ListN.{length, getD}
+use Rattle.counting.specs.Lists.{listed}
+use Rattle.answers.specs.Paper.{Verdict, accepted, refuseWhen, refuseAt, andThen, Said, report, after}
+use Rattle.packed_word.specs.Packed.{bytesFor, pack, distance}
+use Rattle.parity_check.specs.Code.{Matrix, failing}
+use Rattle.parity_check.specs.Check.{checkOf}
+use Rattle.quantiser.specs.Samples.{Choice, settingFits, largest, levelOf, hardBit, firstNotFinite}
+use Rattle.majority_logic.specs.OneStep.{outcomeBy}
+use Rattle.iterative.specs.Rounds.{State, state, End, endOf}
+
+-- "k = 0; z is the hard bits; R is the levels"
+unfoldable pub startOf : Choice → List Float → State
+startOf S xs = state (hardBit xs) (λ j. levelOf S (getD xs j nan))
+
+-- "changed (positions at which the word handed back differs from the received word, that is from the hard bits where samples were lent)"
+unfoldable pub changedBits : Matrix → (ℕ → ℕ) → (ℕ → ℕ) → ℕ
+changedBits H z r = distance (H .n) z r
+
+-- the end of the list, from its start
+unfoldable pub endFrom : Matrix → Choice → List Float → End
+endFrom H S xs = endOf H (largest (S .bits)) 0 (S .limit) (startOf S xs)
+
+-- "An answer holds: decoded or failed; rounds; failing ..; changed"
+unfoldable pub reportAt : Matrix → (ℕ → ℕ) → End → Said
+reportAt H r e = report (outcomeBy (failing H (e .last .z))) (e .k) (failing H (e .last .z)) (changedBits H (e .last .z) r)
+
+-- refusals 1 to 8: the written buffers have room for `bytes` bytes and `levels` levels
+unfoldable pub iterativeVerdict : Matrix → Choice → List Float → ℕ → ℕ → Verdict
+iterativeVerdict H S xs bytes levels =
+    andThen (checkOf H)
+    (refuseWhen 6 (not (settingFits S))
+    (refuseWhen 7 (not (eqb (length xs) (H .n)) || (ltb bytes (bytesFor (H .n)) || ltb levels (H .n)))
+    (refuseAt 8 (firstNotFinite xs) (length xs) accepted)))
+
+-- the answer
+unfoldable pub iterativeOf : Matrix → Choice → List Float → ℕ → ℕ → Said
+iterativeOf H S xs bytes levels = after (iterativeVerdict H S xs bytes levels) (reportAt H (hardBit xs) (endFrom H S xs))
+
+-- "The word is written in either outcome"
+unfoldable pub iterativeWord : Matrix → Choice → List Float → List ℕ
+iterativeWord H S xs = pack (H .n) (endFrom H S xs .last .z)
+
+-- "Iterative voting also writes R as it then stands"
+unfoldable pub iterativeLevels : Matrix → Choice → List Float → List ℤ
+iterativeLevels H S xs = listed (H .n) (endFrom H S xs .last .R)

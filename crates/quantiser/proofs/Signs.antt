@@ -1,0 +1,27 @@
+-- The width of a stored level, and a small number with a sign as the bits of one. Assumes nothing.
+use mathlib.Core.Path.{_≡_, ap, _∙_, subst, sym}
+use Prim.Native.Nat.{ℕ, zero, suc, _^_, _<_}
+use native.Mathlib.Nat.{lt-of-le-of-lt, le-suc}
+use lib.IntN.{ℤ, pos, negℤ, _-ℤ_, +ℤ-idl}
+use lib.Pow.{pow-pos}
+use mir.Syntax.{Width, w8}
+use mir.Val.{SFits, toZ, ofZ, hbits}
+use mir.ValLaws.{toZ-pos, toZ-ofZ}
+
+-- the width of `Cell`
+abbrev pub cell : Width
+cell = w8
+
+module _ (w : Width) where
+  neg-fits : (n : ℕ) → n < 2 ^ hbits w → SFits w (negℤ (pos n))
+  neg-fits zero h = record { sfits = pow-pos (hbits w) }
+  neg-fits (suc n) h = record { sfits = lt-of-le-of-lt (le-suc n) h }
+
+  minus : (n : ℕ) → n < 2 ^ hbits w → pos 0 -ℤ toZ w n ≡ negℤ (pos n)
+  minus n h = ap (λ (z : ℤ). pos 0 -ℤ z) (toZ-pos w n h) ∙ +ℤ-idl (negℤ (pos n))
+
+  pub minus-fits : (n : ℕ) → n < 2 ^ hbits w → SFits w (pos 0 -ℤ toZ w n)
+  minus-fits n h = subst (SFits w) (sym (minus n h)) (neg-fits n h)
+
+  pub minus-back : (n : ℕ) → n < 2 ^ hbits w → toZ w (ofZ w (pos 0 -ℤ toZ w n)) ≡ negℤ (pos n)
+  minus-back n h = toZ-ofZ w _ (minus-fits n h) ∙ minus n h

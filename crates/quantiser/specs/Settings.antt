@@ -1,0 +1,20 @@
+-- The program's setting in document 01's terms.
+--   choiceOf s   == bit width, round limit, kind of step (0 level step, 1 full scale) and step
+-- Assumes nothing.
+use Prim.Native.Nat.{ℕ}
+use lib.Ieee.{Float}
+use Rattle.quantiser.specs.Samples.{Choice}
+use Rattle.quantiser.specs.declared.Setting.{Setting}
+use Rattle.quantiser.specs.declared.Step.{Step}
+use Rattle.quantiser.specs.declared.Step.the-variants.{Level, FullScale}
+
+abbrev pub kindOf : Step → ℕ
+kindOf (Level d) = 0
+kindOf (FullScale f) = 1
+
+abbrev pub stepOf : Step → Float
+stepOf (Level d) = d
+stepOf (FullScale f) = f
+
+abbrev pub choiceOf : Setting → Choice
+choiceOf s = record { bits = s .bits; limit = s .limit; kind = kindOf (s .step); step = stepOf (s .step) }

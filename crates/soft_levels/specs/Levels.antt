@@ -1,0 +1,69 @@
+-- A level R from -L to L kept as the number R + L, and one pass over an array of such levels.
+-- Cutting at -L is then the subtraction of numbers, which stops at 0, and the bit is 1 above the middle L.
+--   biased L R                 == R + L
+--   unbiased L x j             == the level that cell j of the array x stands for
+--   nextLevel gamma top x z v  == the next level, kept so, of a bit z with v failing checks of gamma
+--   aboveMiddle L x            == 1 where x is above the middle, else 0
+--   Bounds                     == sizes small enough for the arrays
+--   Moved                      == bits and levels after the first n of them are brought to the next round
+--   Bounded, Biased            == levels within their range, and an array that keeps them so
+--   Restorable                 == such an array, and room for its levels
+-- Assumes nothing.
+use Prim.Native.Nat.{ℕ, suc, min, _+_, _-_, _*_, _≤_, _<_}
+use mathlib.Core.Path.{_≡_}
+use mathlib.Core.Bool.{cond}
+use mathlib.Core.List.{List}
+use lib.Dec.{eqb, ltb}
+use lib.IntN.{ℤ, pos, negsuc, natAbs, subℕ}
+use lib.ListN.{length, getD}
+use Rattle.counting.specs.Sum.{flag}
+use Rattle.packed_word.specs.Steps.{at}
+
+-- R + L, for R from -L on
+abbrev pub biased : ℕ → ℤ → ℕ
+biased L (pos k) = L + k
+biased L (negsuc k) = L - suc k
+
+-- and back
+unfoldable pub unbiased : ℕ → List ℕ → ℕ → ℤ
+unbiased L x j = subℕ (at x j) L
+
+-- a bit 0 rises by its failing checks, a bit 1 by its other checks
+unfoldable pub nextLevel : ℕ → ℕ → ℕ → ℕ → ℕ → ℕ
+nextLevel gamma top x z v = cond (eqb z 0) (min top (x + 2 * v - gamma)) (min top (x + gamma - 2 * v))
+
+unfoldable pub aboveMiddle : ℕ → ℕ → ℕ
+aboveMiddle L x = flag (ltb L x)
+
+pub record Bounds (n gamma top : ℕ) : Type 0 where
+  pub columns : n ≤ 1023
+  pub weight : gamma ≤ 255
+  pub levels : top ≤ 255
+
+-- the first n bits z and levels x become z′ and x′ by the votes v; the others stay
+pub record Moved (v : List ℕ) (n gamma L top : ℕ) (z x z′ x′ : List ℕ) : Type 0 where
+  pub long-word : length z′ ≡ 1023
+  pub long-levels : length x′ ≡ 1023
+  pub levels : (j : ℕ) → j < n → at x′ j ≡ nextLevel gamma top (at x j) (at z j) (at v j)
+  pub bits : (j : ℕ) → j < n → at z′ j ≡ aboveMiddle L (at x′ j)
+  pub rest-word : (j : ℕ) → n ≤ j → at z′ j ≡ at z j
+  pub rest-levels : (j : ℕ) → n ≤ j → at x′ j ≡ at x j
+
+-- n levels from -L to L
+pub record Bounded (n L : ℕ) (R : List ℤ) : Type 0 where
+  pub columns : n ≤ 1023
+  pub room : n ≤ length R
+  pub largest : L ≤ 127
+  pub within : (j : ℕ) → j < n → natAbs (getD R j (pos 0)) ≤ L
+
+-- the first n cells keep the levels R
+pub record Biased (n L : ℕ) (R : List ℤ) (x : List ℕ) : Type 0 where
+  pub long : length x ≡ 1023
+  pub each : (j : ℕ) → j < n → at x j ≡ biased L (getD R j (pos 0))
+
+-- the first n cells keep levels from -L to L, and there is room for them
+pub record Restorable (n L : ℕ) (x : List ℕ) (R : List ℤ) : Type 0 where
+  pub columns : n ≤ 1023
+  pub room : n ≤ length R
+  pub largest : L ≤ 127
+  pub within : (j : ℕ) → j < n → at x j ≤ 2 * L

@@ -1,0 +1,2 @@
+-- What the contracts of `soft_levels` cite.
+pub mod Levels
