@@ -5,9 +5,9 @@
 --   reads, reads-only                       == the verdict of a matrix has its reading, and is the only one that has
 --   accepted-is, is-accepted                == what an accepted matrix is, both ways
 -- Assumes nothing.
-use mathlib.Core.Path.{_≡_, refl, sym, ap, subst, _∙_}
+use mathlib.Core.Path.{_≡_, sym, ap, subst, _∙_}
 use mathlib.Core.Bool.{Bool, true, false, _&&_}
-use mathlib.Core.Logic.{_⊎_, inl, inr}
+use mathlib.Core.Logic.{inl, inr}
 use Prim.Native.Nat.{ℕ, suc, _+_, _*_, _-_, _/_, _%_, _≤_, _<_}
 use native.Mathlib.Nat.{div-add-mod', div-lt-iff-lt-mul, mod-lt}
 use native.Mathlib.Decide.{ℕ-discrete, decLt}
@@ -17,7 +17,8 @@ use lib.Arith.{digits-mod}
 use lib.Dec.{ltb, leb}
 use lib.ListN.{length, getD}
 use Rattle.counting.specs.Search.{first, FirstAt}
-use Rattle.counting.proofs.Searches.{never, cases, and-left, and-right, and-both, any-at, any-found, first-none, first-clear, first-reads, first-unique}
+use Rattle.counting.proofs.Searches.{never, cases, and-left, and-right, and-both, any-at, any-found, first-none, first-unique}
+use Rattle.counting.proofs.Deciding.{Decides, test-fails, found-or-missed}
 use Rattle.answers.specs.Paper.{Verdict, accepted, refused, refuseAt}
 use Rattle.parity_check.specs.Code.{Matrix, entry, weight, common}
 use Rattle.parity_check.specs.Check.{within, sizesFit, badEntry, badWeight, overlapping, listOf, checkOf}
@@ -37,35 +38,13 @@ range-most lo x hi e = leb-true x hi (and-right (leb lo x) (leb x hi) e)
 differs : {k x : ℕ} → refused k x ≡ accepted → ⊥
 differs e = let z : _≡_ {A = ℕ} 0 1 = cc in omega arith
 
--- a test that decides a statement
-pub record Decides (t : ℕ → Bool) (P : ℕ → Type 0) : Type 0 where
-  pub says : (x : ℕ) → t x ≡ true → P x
-  pub clear : (x : ℕ) → t x ≡ false → P x → ⊥
-
+-- a search of a test that decides a statement: its refusal is given at the first place, or passed
 module _ {t : ℕ → Bool} {P : ℕ → Type 0} (d : Decides t P) where
-  pub holds : (x : ℕ) → P x → t x ≡ true
-  holds x p = cases (t x) (λ y. y) (λ o. absurd (d .clear x o p))
-
-  pub fails : (x : ℕ) → (P x → ⊥) → t x ≡ false
-  fails x f = cases (t x) (λ y. absurd (f (d .says x y))) (λ o. o)
-
-  -- what the search for it finds is the first place, or there is none
-  pub found : (b x : ℕ) → x ≡ first t b → x < b → FirstAt P b x
-  found b x e l = subst (FirstAt P b) (sym e) (first-reads t b (d .says) (d .clear) (omega arith))
-
-  pub missed : (b x : ℕ) → x ≡ first t b → b ≤ x → Never P b
-  missed b x e h y l = d .clear y (first-clear t b (omega arith) y l)
-
-  search-for : (b : ℕ) → FirstAt P b (first t b) ⊎ Never P b
-  search-for b =
-      elim (decLt (first t b) b) [ yes l ↦ inl (found b _ refl l) | no f ↦ inr (missed b _ refl (omega arith)) ]
-
-  -- and the refusal is given at that place, or passed
   refuses : (k b x : ℕ) (v : Verdict) → FirstAt P b x → refuseAt k (first t b) b v ≡ refused k x
   refuses k b x v f = rw (first-unique t b x (d .says) (d .clear) f, lt-ltb x b (f .below))
 
   passes : (k b : ℕ) (v : Verdict) → Never P b → refuseAt k (first t b) b v ≡ v
-  passes k b v h = rw (first-none t b (λ x l. fails x (h x l)), le-ltb b b (omega arith))
+  passes k b v h = rw (first-none t b (λ x l. test-fails d x (h x l)), le-ltb b b (omega arith))
 
 module _ (H : Matrix) where
   pub sizes-say : sizesFit H ≡ true → Sizes H
@@ -266,13 +245,13 @@ decides H =
     elim (ℕ-discrete (length (H .list)) (H .m * H .rho)) [
       | no f ↦ (refused 2 0, length-wrong s f)
       | yes l ↦
-          elim (search-for (entries H) (length (H .list))) [
+          elim (found-or-missed (entries H) (length (H .list))) [
             | inl f ↦ (_, entry-bad s l f)
             | inr c ↦
-                elim (search-for (weights H) (H .n)) [
+                elim (found-or-missed (weights H) (H .n)) [
                   | inl f ↦ (_, weight-bad s l c f)
                   | inr e ↦
-                      elim (search-for (overlaps H) (H .m))
+                      elim (found-or-missed (overlaps H) (H .m))
                       [ inl f ↦ (_, rows-overlap s l c e f) | inr a ↦ (accepted, fine (accepts H s l c e a)) ]
                 ]
           ]

@@ -43,9 +43,9 @@ module _ (f : ℕ → ℕ) where
             ]);
       }
 
-  pub tally-more : (k x : ℕ) (v v′ : List ℕ) → Tally f k v → x ≡ f k → f k < 1023 → v′ ≡ set v x (getD v x 0 + 1) → Tally f (k + 1) v′
+  pub tally-more : (k x : ℕ) (v v′ : List ℕ) → Tally f k v → x ≡ f k → x < 1023 → v′ ≡ set v x (getD v x 0 + 1) → Tally f (k + 1) v′
   tally-more k x v v′ t e h s =
-      subst (Tally f (k + 1)) (sym (s ∙ ap (λ (y : ℕ). set v y (getD v y 0 + 1)) e)) (counted k v t h)
+      subst (Tally f (k + 1)) (sym (s ∙ ap (λ (y : ℕ). set v y (getD v y 0 + 1)) e)) (counted k v t (omega arith))
 
   -- no more than are counted
   pub tally-le : (k : ℕ) (v : List ℕ) → Tally f k v → (j : ℕ) → j < 1023 → getD v j 0 ≤ k
@@ -68,10 +68,3 @@ module _ (H : Matrix) where
       → sum (H .rho) (markAt H i′ v) ≡ common H i i′
   unfolding common has markAt
   tally-common i i′ v t below = sum-cong (H .rho) (λ k h. t .each (entry H i′ k) (below k h)) ∙ common-sym H i′ i
-
-  -- and stay small on the way
-  pub marks-le : (i i′ : ℕ) (v : List ℕ) → H .rho ≤ 32 → Tally (entry H i) (H .rho) v → ((k : ℕ) → k < H .rho → entry H i′ k < 1023)
-      → (k : ℕ) → k ≤ H .rho → sum k (markAt H i′ v) ≤ k * 32
-  unfolding markAt
-  marks-le i i′ v most t below k h =
-      sum-bound k 32 (λ x l. omega (arith, tally-le (entry H i) (H .rho) v t (entry H i′ x) (below x (omega arith))))

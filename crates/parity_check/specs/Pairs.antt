@@ -1,7 +1,9 @@
 -- Pairs of columns that stand in one row, in a set that has one bit for each pair, 64 bits to a word.
+--   digit a k        == place k of a in binary
 --   Held w x         == bit x of the words w is set
 --   Put P w w′ c     == w′ is w with the bits of P set; c is 0 only where none of them was set in w
 --   Grown a w w′     == w′ is w with bit a set
+--   pair a b         == the number of the pair of columns a and b
 --   Beside a row v   == the pairs of column a with the columns that the first v words of row have
 --   PairsOf H i k    == the pairs of row i whose later column stands at a place below k
 -- Assumes nothing.

@@ -1,6 +1,7 @@
 -- What one pass over the list leaves: the first bad entry, and the weights of the columns.
 --   Sized H         == what refusals 1 and 2 leave: sizes in range, a list of m × rho entries
 --   Ordered H       == what refusal 3 leaves besides: no bad entry
+--   Column H i k c  == c is the k-th column number of row i
 --   Tally f k v     == v has for each column how many of f 0 .. f (k - 1) it is
 --   listAt H p      == entry p of the list
 --   markAt H i v k  == what v has for the k-th column of row i
@@ -26,6 +27,11 @@ pub record Sized (H : Matrix) : Type 0 where
 pub record Ordered (H : Matrix) : Type 0 where
   pub sized : Sized H
   pub clear : Never (BadEntry H) (length (H .list))
+
+-- the k-th column number of row i as the code has it: one of the 1,023 of an array
+pub record Column (H : Matrix) (i k c : ℕ) : Type 0 where
+  pub is : c ≡ entry H i k
+  pub below : c < 1023
 
 -- the array of the columns, each with how often it came
 pub record Tally (f : ℕ → ℕ) (k : ℕ) (v : List ℕ) : Type 0 where

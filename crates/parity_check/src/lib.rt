@@ -5,7 +5,7 @@ use answers::Refusal;
 ghost use mathlib.Core.Path.{_≡_};
 ghost use mathlib.Core.Bool.{true, false};
 ghost use mathlib.Core.List.{[]};
-ghost use Prim.Native.Nat.{ℕ, _+_, _*_, _/_, _%_, _<_, _≤_};
+ghost use Prim.Native.Nat.{_+_, _*_, _/_, _%_, _<_, _≤_};
 ghost use lib.ListN.{length, getD, set};
 ghost use Rattle.counting.specs.Search.{first};
 ghost use Rattle.answers.specs.Answers.{verdictOf};
@@ -13,7 +13,7 @@ ghost use Rattle.parity_check.specs.Code.{entry, common};
 ghost use Rattle.parity_check.specs.Check.{within, sizesFit, badEntry, overlapping, checkOf};
 ghost use Rattle.parity_check.specs.Reading.{Overlap, Never};
 ghost use Rattle.parity_check.specs.Shapes.{matrixOf};
-ghost use Rattle.parity_check.specs.Walking.{Sized, Ordered, Tally, listAt, Walked, offWeight};
+ghost use Rattle.parity_check.specs.Walking.{Sized, Ordered, Column, Tally, listAt, Walked, offWeight};
 ghost use Rattle.parity_check.specs.Pairs.{Put, Grown, Beside, PairsOf};
 
 // The sizes of a matrix: columns, rows, ones in each row, ones in each column.
@@ -31,7 +31,7 @@ fn in_range(lo: u16, x: u16, hi: u16) -> bool
     (lo <= x) & (x <= hi)
 }
 
-// Whether the sizes are in range and go together. Every test is made, since the products fit a usize whatever the sizes are.
+// Whether the sizes are in range and go together. Every test is made: the products fit a usize whatever the sizes are.
 fn sizes_fit(shape: Shape) -> bool
     ensures { λ r. ⌜ r ≡ sizesFit (matrixOf shape []) ⌝ }
 {
@@ -68,7 +68,7 @@ fn bad_entry(shape: Shape, list: &[u16], p: usize, k: usize) -> bool
     c <= list[p - 1]
 }
 
-// One more for column c.
+// Counts column c once more.
 fn count(tally: &mut [u16; 1023], c: usize)
     requires { ⌜ (c < 1023) × (getD (now tally) c 0 < 65535) ⌝ }
     ensures { λ _. ⌜ now (tally .exit) ≡ set (now (tally .entry)) c (getD (now (tally .entry)) c 0 + 1) ⌝ }
@@ -76,7 +76,7 @@ fn count(tally: &mut [u16; 1023], c: usize)
     tally[c] += 1;
 }
 
-// The first bad entry, else the list's length. The same pass counts the columns.
+// The first bad entry, else the list's length. The same pass counts the columns' weights.
 fn walk(shape: Shape, list: &[u16], weights: &mut [u16; 1023]) -> usize
     requires { ⌜ Sized (matrixOf shape (now list)) × Tally (listAt (matrixOf shape (now list))) 0 (now weights) ⌝ }
     ensures { λ r. ⌜ Walked (matrixOf shape (now (list .entry))) (now (weights .exit)) r ⌝ }
@@ -114,14 +114,14 @@ fn first_off_weight(shape: Shape, weights: &[u16; 1023]) -> usize
 
 // The k-th column number of row i.
 fn column(shape: Shape, list: &[u16], i: usize, k: usize) -> usize
-    requires { ⌜ Sized (matrixOf shape (now list)) × (i < shape .m) × (k < shape .rho) ⌝ }
-    ensures { λ r. ⌜ r ≡ entry (matrixOf shape (now (list .entry))) i k ⌝ }
+    requires { ⌜ Ordered (matrixOf shape (now list)) × (i < shape .m) × (k < shape .rho) ⌝ }
+    ensures { λ r. ⌜ Column (matrixOf shape (now (list .entry))) i k r ⌝ }
 {
     let rho = shape.rho as usize;
     list[i * rho + k] as usize
 }
 
-// How often each column stands in row i.
+// The marks of row i: how often it has each column.
 fn marks_of(shape: Shape, list: &[u16], i: usize) -> [u16; 1023]
     requires { ⌜ Ordered (matrixOf shape (now list)) × (i < shape .m) ⌝ }
     ensures { λ r. ⌜ Tally (entry (matrixOf shape (now (list .entry))) i) (shape .rho) r ⌝ }
@@ -136,14 +136,7 @@ fn marks_of(shape: Shape, list: &[u16], i: usize) -> [u16; 1023]
     marks
 }
 
-// A u16 as a usize.
-fn wide(x: u16) -> usize
-    ensures { λ r. ⌜ r ≡ x ⌝ }
-{
-    x as usize
-}
-
-// How many columns row i, whose marks are given, has in common with row later.
+// How many columns row i, whose marks are given, shares with a later row.
 fn common_with(shape: Shape, list: &[u16], i: usize, later: usize, marks: &[u16; 1023]) -> usize
     requires { ⌜ Ordered (matrixOf shape (now list)) × (later < shape .m) × Tally (entry (matrixOf shape (now list)) i) (shape .rho) (now marks) ⌝ }
     ensures { λ r. ⌜ r ≡ common (matrixOf shape (now (list .entry))) i later ⌝ }
@@ -153,7 +146,7 @@ fn common_with(shape: Shape, list: &[u16], i: usize, later: usize, marks: &[u16;
     let mut k = 0;
     while k < rho {
         let c = column(shape, list, later, k);
-        shared += wide(marks[c]);
+        shared += marks[c] as usize;
         k += 1;
     }
     shared
@@ -176,23 +169,24 @@ fn row_overlaps(shape: Shape, list: &[u16], i: usize) -> bool
     false
 }
 
-// The first row that does, else m. All pairs of rows are compared.
+// The first row that shares two columns or more with a later row, else m: all pairs of rows are compared.
 fn exact_overlap(shape: Shape, list: &[u16]) -> usize
     requires { ⌜ Ordered (matrixOf shape (now list)) ⌝ }
     ensures { λ r. ⌜ r ≡ first (overlapping (matrixOf shape (now (list .entry)))) (shape .m) ⌝ }
 {
     let m = shape.m as usize;
-    let mut i = 0;
-    while i < m {
-        if row_overlaps(shape, list, i) {
-            return i;
+    let mut first = 0;
+    while first < m {
+        if row_overlaps(shape, list, first) {
+            return first;
         }
-        i += 1;
+        first += 1;
     }
-    i
+    first
 }
 
-// Puts the pairs of column a with the columns of `row` up to a into the set. The answer is 0 where none was there before.
+// Puts the pairs of column a with the columns of `row` into the set, 64 pairs at a time: the set has 16 words for each column.
+// Columns ascend in a row, so those met before a lie in the words up to its own. The answer is 0 where no pair was there before.
 fn put_beside(set: &mut [u64; 16384], a: usize, row: &[u64; 16]) -> u64
     requires { ⌜ (a < 1023) × (length (now set) ≡ 16384) ⌝ }
     ensures { λ r. ⌜ Put (Beside a (now (row .entry)) (a / 64 + 1)) (now (set .entry)) (now (set .exit)) r ⌝ }
@@ -211,7 +205,7 @@ fn put_beside(set: &mut [u64; 16384], a: usize, row: &[u64; 16]) -> u64
     twice
 }
 
-// Puts column a into the columns of a row.
+// Puts column a into the columns of a row, one bit each.
 fn put_column(row: &mut [u64; 16], a: usize)
     requires { ⌜ (a < 1023) × (length (now row) ≡ 16) ⌝ }
     ensures { λ _. ⌜ Grown a (now (row .entry)) (now (row .exit)) ⌝ }
@@ -219,7 +213,7 @@ fn put_column(row: &mut [u64; 16], a: usize)
     row[a / 64] = row[a / 64] | (1 << (a % 64));
 }
 
-// Puts the pairs of row i into the set. The answer is 0 where none was there before.
+// Puts the pairs of columns of row i into the set. The answer is 0 where no pair was there before.
 fn put_row(shape: Shape, list: &[u16], i: usize, set: &mut [u64; 16384]) -> u64
     requires { ⌜ Ordered (matrixOf shape (now list)) × (i < shape .m) × (length (now set) ≡ 16384) ⌝ }
     ensures { λ r. ⌜ Put (PairsOf (matrixOf shape (now (list .entry))) i (shape .rho)) (now (set .entry)) (now (set .exit)) r ⌝ }
@@ -237,7 +231,7 @@ fn put_row(shape: Shape, list: &[u16], i: usize, set: &mut [u64; 16384]) -> u64
     twice
 }
 
-// Whether a pair of columns stands in two rows. Where it says false, no two rows share two columns.
+// Whether a pair of columns is met twice. Where it is not, no two rows share two columns.
 fn pair_twice(shape: Shape, list: &[u16]) -> bool
     requires { ⌜ Ordered (matrixOf shape (now list)) ⌝ }
     ensures { λ r. ⌜ (r ≡ false → Never (Overlap (matrixOf shape (now (list .entry)))) (shape .m)) ⌝ }
@@ -255,7 +249,7 @@ fn pair_twice(shape: Shape, list: &[u16]) -> bool
 }
 
 // The first row that shares two columns or more with a later row, else m.
-// One pass over the pairs of columns finds that there is none, as in every accepted matrix.
+// An accepted matrix has none, which one pass over its rows shows: the exact search is for a refused one.
 fn first_overlap(shape: Shape, list: &[u16]) -> usize
     requires { ⌜ Ordered (matrixOf shape (now list)) ⌝ }
     ensures { λ r. ⌜ r ≡ first (overlapping (matrixOf shape (now (list .entry)))) (shape .m) ⌝ }
@@ -266,7 +260,7 @@ fn first_overlap(shape: Shape, list: &[u16]) -> usize
     shape.m as usize
 }
 
-// Refusals 3 to 5: the matrix check once the sizes and the length are right.
+// The matrix check once the sizes and the length are right: refusals 3 to 5.
 fn check_list(shape: Shape, list: &[u16]) -> Checked
     requires { ⌜ Sized (matrixOf shape (now list)) ⌝ }
     ensures { λ r. ⌜ verdictOf r ≡ checkOf (matrixOf shape (now (list .entry))) ⌝ }

@@ -1,4 +1,5 @@
-use mathlib.Core.Path.{_≡_, sym, ap, _∙_}
+-- `parity_check::bad_entry` meets its contract. Assumes nothing.
+use mathlib.Core.Path.{_≡_, _∙_}
 use mathlib.Core.Bool.{true, false}
 use Prim.Native.Nat.{ℕ, zero, suc, _%_, _≤_}
 use native.Mathlib.Nat.{zero-mod}
@@ -9,28 +10,22 @@ use Rattle.parity_check.specs.Check.{badEntry}
 use borrow.Author.Needs.{needs}
 use Rattle.parity_check.proofs.bad_entry.Statement.{statement}
 use Rattle.parity_check.proofs.bad_entry.Tie as tie
-use Rattle.parity_check.proofs.bad_entry.Reads as reads
-use Rattle.parity_check.proofs.bad_entry.Lts as lts
 
 -- an entry that does not begin a row is not the first
 not-first : (p rho : ℕ) → (p % rho ≡ 0 → ⊥) → 1 ≤ p
 not-first zero rho h = absurd (h (zero-mod rho))
 not-first (suc p) rho h = omega arith
 
--- src/lib.rt:70:13
 mul-c : tie.Need-mul-c
 mul-c c = search needs
 
--- src/lib.rt:70:13
 shared-slice-read-c : tie.Need-shared-slice-read-c
 shared-slice-read-c c = search needs
 
--- src/lib.rt:72:9
 returns : tie.Need-returns
 unfolding badEntry
 returns c = simp (le-leb _ _ (c .if1 .taken))
 
--- src/lib.rt:75:9
 returns-2 : tie.Need-returns-2
 unfolding badEntry
 returns-2 c =
@@ -38,21 +33,17 @@ returns-2 c =
     let z : ltb 0 (a .p % a .shape .rho) ≡ false = le-ltb 0 (a .p % a .shape .rho) (omega (arith, c .before .before .before .pre .1)) in
     simp (lt-leb _ _ (c .before .if1 .left), z)
 
--- src/lib.rt:77:15
 sub-result : tie.Need-sub-result
 sub-result c =
     let a = c .before .before .before .args in
     not-first (a .p) (a .shape .rho) (λ z. c .if2 .left (c .before .before .before .pre .1 ∙ z))
 
--- src/lib.rt:77:10
 mul-result : tie.Need-mul-result
 mul-result c = search needs
 
--- src/lib.rt:77:10
 shared-slice-read-result : tie.Need-shared-slice-read-result
 shared-slice-read-result c = search needs
 
--- src/lib.rt:65:1
 returns-3 : tie.Need-returns-3
 unfolding badEntry
 returns-3 c =

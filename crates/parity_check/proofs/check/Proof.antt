@@ -1,8 +1,7 @@
 -- `parity_check::check` meets its contract. Assumes nothing.
-use mathlib.Core.Path.{_≡_, sym, _∙_}
+use mathlib.Core.Path.{sym, _∙_}
 use native.Mathlib.Omega.{arith}
 use borrow.Author.Tests.{not-true, not-false}
-use lib.ListN.{length}
 use Rattle.counting.proofs.Searches.{never}
 use Rattle.parity_check.specs.Code.{Matrix}
 use Rattle.parity_check.specs.Check.{sizesFit}
@@ -13,10 +12,6 @@ use Rattle.parity_check.proofs.Reading.{sizes-say, sizes-fit, reads-onl
 use borrow.Author.Needs.{needs}
 use Rattle.parity_check.proofs.check.Statement.{statement}
 use Rattle.parity_check.proofs.check.Tie as tie
-use Rattle.parity_check.proofs.check.Reads as reads
-use Rattle.parity_check.proofs.check.Lts as lts
-use Rattle.parity_check.proofs.check_list.Reads as check-list-reads
-use Rattle.parity_check.proofs.sizes_fit.Reads as sizes-fit-reads
 
 -- the matrix that is checked
 abbrev lent : tie.Start → Matrix
@@ -27,42 +22,34 @@ fits : (c : tie.Else1) → Sizes (lent (c .before .before .before))
 unfolding sizesFit
 fits c = sizes-say (lent (c .before .before .before)) (sym (c .before .sizes-fit .ensures) ∙ not-false _ (c .if1 .left))
 
--- src/lib.rt:296:9
 sizes-fit-requires : tie.Need-sizes-fit-requires
 sizes-fit-requires c κs = search needs
 
--- src/lib.rt:297:9
 returns : tie.Need-returns
 unfolding sizesFit
 returns c =
     let b = c .before .before .before in
     reads-only (lent b) _ (sizes-out (λ s. never (sym (sizes-fit (lent b) s) ∙ sym (c .before .sizes-fit .ensures) ∙ not-true _ (c .if1 .taken))))
 
--- src/lib.rt:299:13
 cast-m : tie.Need-cast-m
 cast-m c = search needs
 
--- src/lib.rt:300:15
 cast-rho : tie.Need-cast-rho
 cast-rho c = search needs
 
--- src/lib.rt:301:22
 mul-if2 : tie.Need-mul-if2
 mul-if2 c =
     let b = c .before .before .before .before .before in
     omega (arith, few-entries (lent b) (fits (c .before .before)))
 
--- src/lib.rt:302:9
 returns-2 : tie.Need-returns-2
 returns-2 c =
     let b = c .before .before .before .before .before .before in
     reads-only (lent b) _ (length-wrong (fits (c .before .before .before)) (c .if2 .taken))
 
--- src/lib.rt:304:5
 check-list-requires : tie.Need-check-list-requires
 check-list-requires c κs = record { sizes = fits (c .before .before .before); whole = c .if2 .left }
 
--- src/lib.rt:293:1
 returns-3 : tie.Need-returns-3
 returns-3 c = search needs
 

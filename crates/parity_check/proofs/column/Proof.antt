@@ -4,7 +4,7 @@ use Prim.Native.Nat.{_+_, _*_}
 use native.Mathlib.Omega.{arith}
 use borrow.Author.Needs.{needs}
 use Rattle.parity_check.specs.Code.{entry}
-use Rattle.parity_check.proofs.Ordered.{few, in-list}
+use Rattle.parity_check.proofs.Ordered.{few, in-list, column-below}
 use Rattle.parity_check.proofs.column.Statement.{statement}
 use Rattle.parity_check.proofs.column.Tie as tie
 
@@ -14,22 +14,22 @@ cast-rho c = search needs
 mul-result : tie.Need-mul-result
 mul-result c =
     let p = c .before .pre in
-    omega (arith, in-list (p .0) _ _ (p .1) (p .2), few (p .0))
+    omega (arith, in-list (p .0 .sized) _ _ (p .1) (p .2), few (p .0 .sized))
 
 add-result : tie.Need-add-result
 add-result c =
     let p = c .before .pre in
-    omega (arith, in-list (p .0) _ _ (p .1) (p .2), few (p .0))
+    omega (arith, in-list (p .0 .sized) _ _ (p .1) (p .2), few (p .0 .sized))
 
 mul-result-2 : tie.Need-mul-result-2
 mul-result-2 c =
     let p = c .before .pre in
-    omega (arith, in-list (p .0) _ _ (p .1) (p .2), few (p .0))
+    omega (arith, in-list (p .0 .sized) _ _ (p .1) (p .2), few (p .0 .sized))
 
 shared-slice-read-result : tie.Need-shared-slice-read-result
 shared-slice-read-result c =
     let p = c .before .before .pre in
-    in-list (p .0) _ _ (p .1) (p .2)
+    in-list (p .0 .sized) _ _ (p .1) (p .2)
 
 cast-result : tie.Need-cast-result
 cast-result c =
@@ -38,7 +38,9 @@ cast-result c =
 
 returns : tie.Need-returns
 unfolding entry
-returns c = refl
+returns c =
+    let p = c .before .before .pre in
+    record { is = refl; below = column-below (p .0) _ _ (p .1) (p .2) }
 
 pub column-spec : {M : Type 1} → statement M
 column-spec =

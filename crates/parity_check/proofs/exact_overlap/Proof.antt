@@ -9,54 +9,43 @@ use Rattle.parity_check.specs.Check.{overlapping}
 use Rattle.parity_check.specs.Shapes.{matrixOf}
 use Rattle.parity_check.proofs.exact_overlap.Statement.{statement}
 use Rattle.parity_check.proofs.exact_overlap.Tie as tie
-use Rattle.parity_check.proofs.exact_overlap.Reads as reads
-use Rattle.parity_check.proofs.exact_overlap.Lts as lts
-use Rattle.parity_check.proofs.row_overlaps.Reads as row-overlaps-reads
 
 abbrev Inv-loop : tie.InvT-loop
-Inv-loop shape list m i₀ i =
-    (i ≤ m) × ((x : ℕ) → x < i → overlapping (matrixOf shape list) x ≡ false)
+Inv-loop shape list m first₀ first =
+    (first ≤ m) × ((x : ℕ) → x < first → overlapping (matrixOf shape list) x ≡ false)
 
 abbrev μ-loop : tie.MeasureT-loop
-μ-loop shape list m i₀ i = m - i
+μ-loop shape list m first₀ first = m - first
 
--- src/lib.rt:178:13
 cast-m : tie.Need-cast-m Inv-loop μ-loop
 cast-m c = omega arith
 
--- src/lib.rt:180:5
 loop-holds : tie.Need-loop-holds Inv-loop μ-loop
 loop-holds c = (omega arith, λ x l. absurd (omega arith))
 
--- src/lib.rt:181:12
 row-overlaps-requires : tie.Need-row-overlaps-requires Inv-loop μ-loop
 row-overlaps-requires c κs = (c .before .before .before .before .pre, omega arith)
 
--- src/lib.rt:182:13
 returns : tie.Need-returns Inv-loop μ-loop
 returns c =
     let a = c .before .before .before .before .before .before .args in
     let l = c .before .before .before .loop in
-    sym (first-at (overlapping (matrixOf (a .shape) (a .list .now))) (a .shape .m) (l .i) (omega arith) (l .inv .1) (sym (c .before .row-overlaps .ensures) ∙ c .if1 .taken))
+    sym (first-at (overlapping (matrixOf (a .shape) (a .list .now))) (a .shape .m) (l .first) (omega arith) (l .inv .1) (sym (c .before .row-overlaps .ensures) ∙ c .if1 .taken))
 
--- src/lib.rt:184:9
-add-i : tie.Need-add-i Inv-loop μ-loop
-add-i c = omega arith
+add-first : tie.Need-add-first Inv-loop μ-loop
+add-first c = omega arith
 
--- src/lib.rt:180:5
 loop-less : tie.Need-loop-less Inv-loop μ-loop
 loop-less c = omega arith
 
--- src/lib.rt:180:5
 loop-again : tie.Need-loop-again Inv-loop μ-loop
 loop-again c = (omega arith, below-more _ _ (c .before .before .before .loop .inv .1) (sym (c .before .row-overlaps .ensures) ∙ c .if1 .left))
 
--- src/lib.rt:174:1
 returns-2 : tie.Need-returns-2 Inv-loop μ-loop
 returns-2 c =
     let a = c .before .before .before .before .args in
     let l = c .before .loop in
-    let e : l .i ≡ a .shape .m = omega arith in
+    let e : l .first ≡ a .shape .m = omega arith in
     e ∙ sym (first-none (overlapping (matrixOf (a .shape) (a .list .now))) (a .shape .m) (λ x h. l .inv .1 x (omega arith)))
 
 pub exact-overlap-spec : {M : Type 1} → statement M
@@ -69,7 +58,7 @@ exact-overlap-spec =
     loop-holds
     row-overlaps-requires
     returns
-    add-i
+    add-first
     loop-less
     loop-again
     returns-2)

@@ -1,6 +1,6 @@
 -- `parity_check::pair_twice` meets its contract. The loop's invariant: the set has the pairs of the rows passed, and no two of these have one in common. Assumes nothing.
 use mathlib.Core.Path.{_≡_, _∙_}
-use Prim.Native.Nat.{ℕ, _-_, _≤_, _<_}
+use Prim.Native.Nat.{ℕ, _-_, _≤_}
 use native.Mathlib.Omega.{arith}
 use lib.ListN.{length, length-replicate}
 use Rattle.counting.proofs.Searches.{never}
@@ -9,9 +9,6 @@ use Rattle.parity_check.proofs.Ordered.{columns-ascend}
 use Rattle.parity_check.proofs.Pairs.{RowsHeld, Apart, held-more, apart-more, apart-never}
 use Rattle.parity_check.proofs.pair_twice.Statement.{statement}
 use Rattle.parity_check.proofs.pair_twice.Tie as tie
-use Rattle.parity_check.proofs.pair_twice.Reads as reads
-use Rattle.parity_check.proofs.pair_twice.Lts as lts
-use Rattle.parity_check.proofs.put_row.Reads as put-row-reads
 
 abbrev Inv-loop : tie.InvT-loop
 Inv-loop shape list m set₀ i₀ set i =
@@ -20,31 +17,24 @@ Inv-loop shape list m set₀ i₀ set i =
 abbrev μ-loop : tie.MeasureT-loop
 μ-loop shape list m set₀ i₀ set i = m - i
 
--- src/lib.rt:245:13
 cast-m : tie.Need-cast-m Inv-loop μ-loop
 cast-m c = omega arith
 
--- src/lib.rt:248:5
 loop-holds : tie.Need-loop-holds Inv-loop μ-loop
 loop-holds c = (omega arith, length-replicate {A = ℕ} 16384 0, λ i l. absurd (omega arith), λ i l. absurd (omega arith))
 
--- src/lib.rt:249:12
 put-row-requires : tie.Need-put-row-requires Inv-loop μ-loop
 put-row-requires c κs = (c .before .before .before .before .before .pre, omega arith, c .before .before .loop .inv .1)
 
--- src/lib.rt:250:13
 returns : tie.Need-returns Inv-loop μ-loop
 returns c = λ e. absurd (never e)
 
--- src/lib.rt:252:9
 add-i : tie.Need-add-i Inv-loop μ-loop
 add-i c = omega arith
 
--- src/lib.rt:248:5
 loop-less : tie.Need-loop-less Inv-loop μ-loop
 loop-less c = omega arith
 
--- src/lib.rt:248:5
 loop-again : tie.Need-loop-again Inv-loop μ-loop
 loop-again c =
     let a = c .before .before .before .before .before .before .before .args in
@@ -58,7 +48,6 @@ loop-again c =
       apart-more H (l .i) (l .set) set′ (p .result) (p .ensures) (l .inv .2) (c .if1 .left) (l .inv .3),
     )
 
--- src/lib.rt:241:1
 returns-2 : tie.Need-returns-2 Inv-loop μ-loop
 returns-2 c =
     let b = c .before .before .before .before in

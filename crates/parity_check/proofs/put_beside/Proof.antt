@@ -3,11 +3,10 @@ use mathlib.Core.Path.{_≡_, subst}
 use Prim.Native.Nat.{ℕ, _+_, _-_, _/_, _≤_}
 use native.Mathlib.Omega.{arith}
 use Rattle.parity_check.specs.Pairs.{Put, Beside}
-use Rattle.parity_check.proofs.Pairs.{put-none, beside-more}
+use Rattle.parity_check.proofs.Words.{put-none}
+use Rattle.parity_check.proofs.Pairs.{beside-more}
 use Rattle.parity_check.proofs.put_beside.Statement.{statement}
 use Rattle.parity_check.proofs.put_beside.Tie as tie
-use Rattle.parity_check.proofs.put_beside.Reads as reads
-use Rattle.parity_check.proofs.put_beside.Lts as lts
 
 abbrev Inv-loop : tie.InvT-loop
 Inv-loop set₀ a row words twice₀ v₀ set twice v =
@@ -16,63 +15,49 @@ Inv-loop set₀ a row words twice₀ v₀ set twice v =
 abbrev μ-loop : tie.MeasureT-loop
 μ-loop set₀ a row words twice₀ v₀ set twice v = words - v
 
--- src/lib.rt:200:17
 add-words : tie.Need-add-words Inv-loop μ-loop
 add-words c = omega arith
 
--- src/lib.rt:203:5
 loop-holds : tie.Need-loop-holds Inv-loop μ-loop
 unfolding Beside
 loop-holds c = (omega arith, put-none _ (λ x s. absurd (omega (arith, s .1))))
 
--- src/lib.rt:204:18
 mul-at : tie.Need-mul-at Inv-loop μ-loop
 mul-at c = omega arith
 
--- src/lib.rt:204:18
 add-at : tie.Need-add-at Inv-loop μ-loop
 add-at c = omega arith
 
--- src/lib.rt:205:19
 mul-new : tie.Need-mul-new Inv-loop μ-loop
 mul-new c = omega arith
 
--- src/lib.rt:205:19
 element-copy-out-new : tie.Need-element-copy-out-new Inv-loop μ-loop
 element-copy-out-new c = omega arith
 
--- src/lib.rt:206:19
 mul-old : tie.Need-mul-old Inv-loop μ-loop
 mul-old c = omega arith
 
--- src/lib.rt:206:19
 element-copy-out-old : tie.Need-element-copy-out-old Inv-loop μ-loop
 element-copy-out-old c = omega arith
 
--- src/lib.rt:208:9
 mul-set : tie.Need-mul-set Inv-loop μ-loop
 mul-set c = omega arith
 
--- src/lib.rt:208:9
 element-write-set : tie.Need-element-write-set Inv-loop μ-loop
 element-write-set c = omega arith
 
--- src/lib.rt:209:9
 add-v : tie.Need-add-v Inv-loop μ-loop
 add-v c = omega arith
 
--- src/lib.rt:203:5
 loop-less : tie.Need-loop-less Inv-loop μ-loop
 loop-less c = omega arith
 
--- src/lib.rt:203:5
 loop-again : tie.Need-loop-again Inv-loop μ-loop
 loop-again c =
     let b = c .before .before .before .before in
     let l = c .before .before .before .loop in
     (omega arith, beside-more (b .args .a) (l .v) (b .args .row .now) (b .args .set .now) (l .set) (l .twice) (omega (arith, l .inv .1 .long, b .pre .1)) (l .inv .1))
 
--- src/lib.rt:196:1
 returns : tie.Need-returns Inv-loop μ-loop
 returns c =
     let a = c .before .before .args in

@@ -1,34 +1,26 @@
 -- `parity_check::put_column` meets its contract. Assumes nothing.
 use Prim.Native.Nat.{_%_}
 use native.Mathlib.Omega.{arith}
-use Rattle.parity_check.proofs.Pairs.{grown, shifted}
+use Rattle.parity_check.proofs.Words.{grown, shifted}
 use borrow.Author.Needs.{needs}
 use Rattle.parity_check.proofs.put_column.Statement.{statement}
 use Rattle.parity_check.proofs.put_column.Tie as tie
-use Rattle.parity_check.proofs.put_column.Reads as reads
-use Rattle.parity_check.proofs.put_column.Lts as lts
 
--- src/lib.rt:219:19
 mul-row : tie.Need-mul-row
 mul-row c = search needs
 
--- src/lib.rt:219:19
 element-copy-out-row : tie.Need-element-copy-out-row
 element-copy-out-row c = search needs
 
--- src/lib.rt:219:34
 shl-row : tie.Need-shl-row
 shl-row c = search needs
 
--- src/lib.rt:219:5
 mul-row-2 : tie.Need-mul-row-2
 mul-row-2 c = search needs
 
--- src/lib.rt:219:5
 element-write-row : tie.Need-element-write-row
 element-write-row c = search needs
 
--- src/lib.rt:215:1
 returns : tie.Need-returns
 returns c =
     let a = c .before .args .a in

@@ -1,17 +1,14 @@
 -- `parity_check::row_overlaps` meets its contract. The loop's invariant: row i shares at most one column with each later row passed. Assumes nothing.
-use mathlib.Core.Path.{_≡_, sym}
+use mathlib.Core.Path.{sym}
 use Prim.Native.Nat.{ℕ, _-_, _≤_, _<_}
 use native.Mathlib.Omega.{arith}
 use borrow.Author.Count.{below-more}
+use Rattle.counting.proofs.Deciding.{test-holds, test-fails}
 use Rattle.parity_check.specs.Code.{common}
 use Rattle.parity_check.specs.Shapes.{matrixOf}
-use Rattle.parity_check.proofs.Reading.{holds, fails, overlaps}
+use Rattle.parity_check.proofs.Reading.{overlaps}
 use Rattle.parity_check.proofs.row_overlaps.Statement.{statement}
 use Rattle.parity_check.proofs.row_overlaps.Tie as tie
-use Rattle.parity_check.proofs.row_overlaps.Reads as reads
-use Rattle.parity_check.proofs.row_overlaps.Lts as lts
-use Rattle.parity_check.proofs.common_with.Reads as common-with-reads
-use Rattle.parity_check.proofs.marks_of.Reads as marks-of-reads
 
 abbrev Inv-loop : tie.InvT-loop
 Inv-loop shape list i m marks later₀ later =
@@ -20,44 +17,35 @@ Inv-loop shape list i m marks later₀ later =
 abbrev μ-loop : tie.MeasureT-loop
 μ-loop shape list i m marks later₀ later = m - later
 
--- src/lib.rt:170:13
 cast-m : tie.Need-cast-m Inv-loop μ-loop
 cast-m c = omega arith
 
--- src/lib.rt:171:17
 marks-of-requires : tie.Need-marks-of-requires Inv-loop μ-loop
 marks-of-requires c κs = c .before .before .pre
 
--- src/lib.rt:172:21
 add-later : tie.Need-add-later Inv-loop μ-loop
 add-later c = omega arith
 
--- src/lib.rt:173:5
 loop-holds : tie.Need-loop-holds Inv-loop μ-loop
 loop-holds c = (omega arith, omega (arith, c .before .before .before .pre .1), λ x l h. absurd (omega arith))
 
--- src/lib.rt:174:12
 common-with-requires : tie.Need-common-with-requires Inv-loop μ-loop
 common-with-requires c κs =
     let b = c .before .before .before .before .before .before in
     (b .pre .0, omega arith, c .before .before .before .marks-of .ensures)
 
--- src/lib.rt:175:13
 returns : tie.Need-returns Inv-loop μ-loop
 returns c =
     let b = c .before .before .before .before .before .before .before .before in
     let l = c .before .before .before .before .loop in
-    sym (holds (overlaps (matrixOf (b .args .shape) (b .args .list .now))) (b .args .i) (l .later, l .inv .0, omega arith, omega (arith, c .before .common-with .ensures, c .if1 .taken)))
+    sym (test-holds (overlaps (matrixOf (b .args .shape) (b .args .list .now))) (b .args .i) (l .later, l .inv .0, omega arith, omega (arith, c .before .common-with .ensures, c .if1 .taken)))
 
--- src/lib.rt:177:9
 add-later-2 : tie.Need-add-later-2 Inv-loop μ-loop
 add-later-2 c = omega arith
 
--- src/lib.rt:173:5
 loop-less : tie.Need-loop-less Inv-loop μ-loop
 loop-less c = omega arith
 
--- src/lib.rt:173:5
 loop-again : tie.Need-loop-again Inv-loop μ-loop
 loop-again c =
     let b = c .before .before .before .before .before .before .before .before in
@@ -70,12 +58,11 @@ loop-again c =
           (λ k. omega (arith, c .before .common-with .ensures, c .if1 .left)) x h g,
     )
 
--- src/lib.rt:166:1
 returns-2 : tie.Need-returns-2 Inv-loop μ-loop
 returns-2 c =
     let b = c .before .before .before .before .before in
     let l = c .before .loop in
-    sym (fails (overlaps (matrixOf (b .args .shape) (b .args .list .now))) (b .args .i) (λ o. omega (arith, l .inv .2 (o .0) (o .1) (omega (arith, o .2)), o .3)))
+    sym (test-fails (overlaps (matrixOf (b .args .shape) (b .args .list .now))) (b .args .i) (λ o. omega (arith, l .inv .2 (o .0) (o .1) (omega (arith, o .2)), o .3)))
 
 pub row-overlaps-spec : {M : Type 1} → statement M
 row-overlaps-spec =

@@ -5,7 +5,7 @@ use Prim.Native.Nat.{ℕ, _+_, _-_, _%_, _≤_, _<_}
 use native.Mathlib.Nat.{zero-mod, mod-lt, mod-add-mod}
 use native.Mathlib.Omega.{arith}
 use borrow.Author.Count.{below-more}
-use lib.ListN.{length, getD}
+use lib.ListN.{length}
 use Rattle.counting.proofs.Searches.{first-none, first-at}
 use Rattle.parity_check.specs.Check.{badEntry}
 use Rattle.parity_check.specs.Shapes.{matrixOf}
@@ -14,11 +14,6 @@ use Rattle.parity_check.proofs.Ordered.{few, good-below}
 use Rattle.parity_check.proofs.Tallies.{tally-more, tally-le}
 use Rattle.parity_check.proofs.walk.Statement.{statement}
 use Rattle.parity_check.proofs.walk.Tie as tie
-use Rattle.parity_check.proofs.walk.Reads as reads
-use Rattle.parity_check.proofs.walk.Lts as lts
-use Rattle.parity_check.proofs.bad_entry.Reads as bad-entry-reads
-use Rattle.parity_check.proofs.count.Reads as count-reads
-use Rattle.parity_check.proofs.next_place.Reads as next-place-reads
 
 abbrev Inv-loop : tie.InvT-loop
 Inv-loop shape list weights₀ rho p₀ k₀ weights p k =
@@ -28,19 +23,15 @@ Inv-loop shape list weights₀ rho p₀ k₀ weights p k =
 abbrev μ-loop : tie.MeasureT-loop
 μ-loop shape list weights₀ rho p₀ k₀ weights p k = length list - p
 
--- src/lib.rt:84:15
 cast-rho : tie.Need-cast-rho Inv-loop μ-loop
 cast-rho c = omega arith
 
--- src/lib.rt:87:5
 loop-holds : tie.Need-loop-holds Inv-loop μ-loop
 loop-holds c = (omega arith, sym (zero-mod (c .before .before .args .shape .rho)), c .before .before .pre .1, λ x l. absurd (omega arith))
 
--- src/lib.rt:88:12
 bad-entry-requires : tie.Need-bad-entry-requires Inv-loop μ-loop
 bad-entry-requires c κs = (omega arith, c .before .loop .inv .1)
 
--- src/lib.rt:89:13
 returns : tie.Need-returns Inv-loop μ-loop
 returns c =
     let a = c .before .before .before .before .before .before .args in
@@ -51,19 +42,15 @@ returns c =
       tallied = λ e. absurd (omega (arith, e, c .before .before .loop-test .taken));
     }
 
--- src/lib.rt:91:24
 mul-count : tie.Need-mul-count Inv-loop μ-loop
 mul-count c = omega arith
 
--- src/lib.rt:91:24
 shared-slice-read-count : tie.Need-shared-slice-read-count Inv-loop μ-loop
 shared-slice-read-count c = omega arith
 
--- src/lib.rt:91:24
 cast-count : tie.Need-cast-count Inv-loop μ-loop
 cast-count c = omega (arith, c .shared-slice-known2 .given (c .before .before .before .before .before .loop .p))
 
--- src/lib.rt:91:9
 count-requires : tie.Need-count-requires Inv-loop μ-loop
 count-requires c κs =
     let b = c .before .before .before .before .before .before .before .before in
@@ -73,22 +60,18 @@ count-requires c κs =
     let low : listAt H (l .p) < 1023 = omega (arith, h, b .pre .0 .sizes .n-most) in
     (low, omega (arith, tally-le (listAt H) (l .p) (l .weights) (l .inv .2) (listAt H (l .p)) low, few (b .pre .0), l .inv .0))
 
--- src/lib.rt:92:9
 next-place-requires : tie.Need-next-place-requires Inv-loop μ-loop
 next-place-requires c κs =
     let l = c .before .before .before .before .before .before .loop in
     let b = c .before .before .before .before .before .before .before .before .before in
     omega (arith, l .inv .1, mod-lt (l .p) {m = b .args .shape .rho} (omega (arith, b .pre .0 .sizes .rho-least)))
 
--- src/lib.rt:93:9
 add-p : tie.Need-add-p Inv-loop μ-loop
 add-p c = omega arith
 
--- src/lib.rt:87:5
 loop-less : tie.Need-loop-less Inv-loop μ-loop
 loop-less c = omega arith
 
--- src/lib.rt:87:5
 loop-again : tie.Need-loop-again Inv-loop μ-loop
 loop-again c =
     let b = c .before .before .before .before .before .before .before .before .before .before in
@@ -102,7 +85,6 @@ loop-again c =
       below-more (λ (x : ℕ). badEntry H x ≡ false) (l .p) (l .inv .3) good,
     )
 
--- src/lib.rt:80:1
 returns-2 : tie.Need-returns-2 Inv-loop μ-loop
 returns-2 c =
     let a = c .before .before .before .before .args in
