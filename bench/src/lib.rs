@@ -1,5 +1,6 @@
-//! The benchmark's parts: a hand-optimised decoder in Rust to measure the library against, and
-//! the clock. The literal form is the reference decoder.
+//! The benchmark's parts: a hand-optimised decoder in Rust to measure the library and the program
+//! against, and the clock. The literal form is the reference decoder.
 
+pub mod accumulate;
 pub mod clock;
 pub mod optimised;

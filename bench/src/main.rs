@@ -1,7 +1,11 @@
 //! The library's times as ratios to a hand-optimised form in Rust, and the literal form's.
 //!
 //! CPU time of one call, the forms taking turns in the same run, the best of many turns. The
-//! number of turns can be given as an argument.
+//! number of turns can be given as an argument. With the feature `program` the program's times
+//! follow in a second table.
+
+#[cfg(feature = "program")]
+mod programs;
 
 use bench::clock::cpu_microseconds;
 use bench::optimised;
@@ -201,4 +205,6 @@ fn main() {
         measure_check(&code, turns);
         measure_one_step(&code, turns);
     }
+    #[cfg(feature = "program")]
+    programs::measure(turns.div_ceil(5));
 }

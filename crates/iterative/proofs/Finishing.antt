@@ -113,7 +113,7 @@ module _ (H : Matrix) (S : Choice) (xs : List Float) (w : List ℕ) (ls : List �
   holds-start : Holds (H .n) (largest (S .bits)) z x (startOf S xs)
   holds-start = rw (lent .samples) at (start .holds)
 
-  pub start-ready : Ready H (largest (S .bits)) z x
+  start-ready : Ready H (largest (S .bits)) z x
   start-ready =
       let h = holds-start in
       record {
@@ -125,7 +125,7 @@ module _ (H : Matrix) (S : Choice) (xs : List Float) (w : List ℕ) (ls : List �
         within = λ j l. omega (arith, h .levels j l, biased-le (largest (S .bits)) (startOf S xs .R j) (h .within j l));
       }
 
-  pub start-bits : (j : ℕ) → j < H .n → at z j < 2
+  start-bits : (j : ℕ) → j < H .n → at z j < 2
   start-bits j l = omega (arith, holds-start .word j l, holds-start .bit j l)
 
   module _ (z′ x′ : List ℕ) (k f : ℕ) (ran : Ran H (largest (S .bits)) (S .limit) z x z′ x′ k f) where
@@ -143,10 +143,10 @@ module _ (H : Matrix) (S : Choice) (xs : List Float) (w : List ℕ) (ls : List �
           fails = ran .fails ∙ failing-alike-end H L rows 0 (S .limit) (stateOf L z x) (startOf S xs) like;
         }
 
-    pub stop-bits : (j : ℕ) → j < H .n → at z′ j < 2
+    stop-bits : (j : ℕ) → j < H .n → at z′ j < 2
     stop-bits j l = omega (arith, stopped .holds .word j l, stopped .holds .bit j l)
 
-    pub stop-restorable : Restorable (H .n) (largest (S .bits)) x′ ls₁
+    stop-restorable : Restorable (H .n) (largest (S .bits)) x′ ls₁
     stop-restorable =
         record {
           columns = lent .matrix .sizes .n-most;
@@ -191,7 +191,7 @@ module _ (H : Matrix) (S : Choice) (xs : List Float) (w : List ℕ) (ls : List �
         ∙ over-over (listed (H .n) u) (levelsOf S xs) ls (level-count u)
         ∙ ap (λ (a : List ℤ). over a ls) (listed-cong (H .n) u (endFrom H S xs .last .R) level-back)
 
-    pub decoded : (hard₀ hard w′ : List ℕ) (ls′ : List ℤ) (changed : ℕ) (said : Said) → hard ≡ over (pack (H .n) (at z)) hard₀ → w′ ≡ over (pack (H .n) (at z′)) w
+    decoded : (hard₀ hard w′ : List ℕ) (ls′ : List ℤ) (changed : ℕ) (said : Said) → hard ≡ over (pack (H .n) (at z)) hard₀ → w′ ≡ over (pack (H .n) (at z′)) w
         → ls′ ≡ over (listed (H .n) (unbiased (largest (S .bits)) x′)) ls₁
         → changed ≡ distance (8 * bytesFor (H .n)) (bitAt (take (bytesFor (H .n)) w′)) (bitAt (take (bytesFor (H .n)) hard))
         → said ≡ report (outcomeBy f) k f changed → Decoded H S xs said w w′ ls ls′
@@ -201,3 +201,29 @@ module _ (H : Matrix) (S : Choice) (xs : List Float) (w : List ℕ) (ls : List �
           word = word-written w′ ew;
           levels = levels-written ls′ el;
         }
+
+-- ---- the same for a caller that knows the largest level by another name
+
+module _ {H : Matrix} {S : Choice} {xs : List Float} {w : List ℕ} {ls ls₁ : List ℤ} {z x : List ℕ} {L : ℕ}
+    (lent : Lent H S xs w ls) (start : Started S xs ls ls₁ z x) (e : L ≡ largest (S .bits)) where
+  pub call-ready : Ready H L z x
+  call-ready = rw e (start-ready H S xs w ls lent ls₁ z x start)
+
+  pub call-hard : (j : ℕ) → j < H .n → at z j < 2
+  call-hard = start-bits H S xs w ls lent ls₁ z x start
+
+  module _ {z′ x′ : List ℕ} {k f : ℕ} (ran : Ran H L (S .limit) z x z′ x′ k f) where
+    by-largest : Ran H (largest (S .bits)) (S .limit) z x z′ x′ k f
+    by-largest = rw e at ran
+
+    pub call-bits : (j : ℕ) → j < H .n → at z′ j < 2
+    call-bits = stop-bits H S xs w ls lent ls₁ z x start z′ x′ k f by-largest
+
+    pub call-restorable : Restorable (H .n) L x′ ls₁
+    call-restorable = rw e (stop-restorable H S xs w ls lent ls₁ z x start z′ x′ k f by-largest)
+
+    pub call-decoded : (hard₀ : List ℕ) {hard w′ : List ℕ} {ls′ : List ℤ} {changed : ℕ} {said : Said} → hard ≡ over (pack (H .n) (at z)) hard₀ → w′ ≡ over (pack (H .n) (at z′)) w
+        → ls′ ≡ over (listed (H .n) (unbiased L x′)) ls₁
+        → changed ≡ distance (8 * bytesFor (H .n)) (bitAt (take (bytesFor (H .n)) w′)) (bitAt (take (bytesFor (H .n)) hard))
+        → said ≡ report (outcomeBy f) k f changed → Decoded H S xs said w w′ ls ls′
+    call-decoded hard₀ {hard} {w′} {ls′} {changed} {said} eh ew el = decoded H S xs w ls lent ls₁ z x start z′ x′ k f by-largest hard₀ hard w′ ls′ changed said eh ew (rw e at el)

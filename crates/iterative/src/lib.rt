@@ -74,7 +74,7 @@ pub fn run(
 }
 
 // L, the largest level of so many bits.
-fn middle_of(bits: u16) -> u8
+pub fn middle_of(bits: u16) -> u8
     requires { ⌜ (2 ≤ bits) × (bits ≤ mostBits) ⌝ }
     ensures { λ r. ⌜ r ≡ largest bits ⌝ }
 {

@@ -3,10 +3,19 @@
 //!
 //! FUZZ_N multiplies the number of random cases, FUZZ_SEED chooses others.
 
+pub mod causes;
 mod guarded;
+#[cfg(feature = "samples")]
+mod samples;
+#[cfg(feature = "session")]
+mod session;
 mod subject;
 
-pub use guarded::Guarded;
+pub use guarded::{Cell, Guarded};
+#[cfg(feature = "samples")]
+pub use samples::{bytes_for, quantise, quantise_exactly, Left};
+#[cfg(feature = "session")]
+pub use session::Lent;
 pub use subject::Subject;
 
 use generator::Random;

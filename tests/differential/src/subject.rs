@@ -23,12 +23,17 @@ impl Subject {
         &self.matrix
     }
 
+    /// The reference's check of it.
+    pub fn verdict(&self) -> Result<(), Refusal> {
+        self.verdict
+    }
+
     /// The bytes of a word of this matrix.
     pub fn needed(&self) -> usize {
         byte_count(self.matrix.n)
     }
 
-    fn lent(&self) -> LentMatrix<'_> {
+    pub(crate) fn lent(&self) -> LentMatrix<'_> {
         LentMatrix {
             list: self.list.lent(),
             ..LentMatrix::from(&self.matrix)
@@ -36,7 +41,7 @@ impl Subject {
     }
 
     /// The sizes and, of a short list, the entries, for a message.
-    fn described(&self) -> String {
+    pub(crate) fn described(&self) -> String {
         let h = &self.matrix;
         let mut text = format!("n {} m {} rho {} gamma {}", h.n, h.m, h.rho, h.gamma);
         if h.list.len() <= 120 {
@@ -48,7 +53,7 @@ impl Subject {
     }
 
     /// The list and its guards are as they were.
-    fn list_stands(&self) -> bool {
+    pub(crate) fn list_stands(&self) -> bool {
         self.list.lent() == self.matrix.list && self.list.guards_stand()
     }
 

@@ -3,8 +3,8 @@ use std::fmt;
 
 /// The answer of an exported function: code + 2^32 × (rounds + 2^8 × (failing + 2^12 × changed)).
 ///
-/// The code is 0 for decoded, accepted or counted, 1 for failed, else the refusal's number ×
-/// 65,536 + its place. A refusal has rounds, failing and changed 0.
+/// The code is 0 for decoded, accepted, counted or quantised, 1 for failed, 2 for working, else
+/// the refusal's number × 65,536 + its place. A refusal has rounds, failing and changed 0.
 #[derive(Clone, Copy, PartialEq, Eq)]
 pub struct Packed(pub u64);
 
@@ -15,7 +15,7 @@ impl Packed {
         Packed(code + (1 << 32) * (rounds + (1 << 8) * (failing + (1 << 12) * changed)))
     }
 
-    /// What the library is to answer where the reference checks a matrix.
+    /// What the library is to answer where the reference checks a matrix or quantises.
     pub fn of_check(answer: Result<(), Refusal>) -> Packed {
         answer.map_or_else(Packed::refused, |()| Packed::new(0, 0, 0, 0))
     }
@@ -31,12 +31,14 @@ impl Packed {
             let code = match answer.outcome {
                 Outcome::Decoded => 0,
                 Outcome::Failed => 1,
+                Outcome::Working => 2,
             };
             Packed::new(code, answer.rounds, answer.failing, answer.changed)
         })
     }
 
-    fn refused(refusal: Refusal) -> Packed {
+    /// The same for a refusal.
+    pub fn refused(refusal: Refusal) -> Packed {
         let code = u64::from(refusal.number) * 65536 + u64::from(refusal.place);
         Packed::new(code, 0, 0, 0)
     }
@@ -58,6 +60,7 @@ impl fmt::Debug for Packed {
         match (self.refusal(), self.place()) {
             (0, 0) => write!(f, "decoded")?,
             (0, 1) => write!(f, "failed")?,
+            (0, 2) => write!(f, "working")?,
             (0, code) => write!(f, "code {code}")?,
             (number, place) => write!(f, "refusal {number} at {place}")?,
         }

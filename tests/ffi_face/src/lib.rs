@@ -2,12 +2,21 @@
 //!
 //! A slice crosses as two scalars, a pointer and the number of elements; a Rust slice in the
 //! declaration itself would be passed in another way. A later function is one declaration and
-//! one wrapper; a setting would be a struct here, as the matrix is.
+//! one wrapper. The features `samples` and `session` declare the functions that start from
+//! samples, and the session's.
 
 mod answer;
+#[cfg(feature = "samples")]
+mod samples;
+#[cfg(feature = "session")]
+mod session;
 
 pub use answer::Packed;
 use reference::Matrix;
+#[cfg(feature = "samples")]
+pub use samples::{iterative, quantise};
+#[cfg(feature = "session")]
+pub use session::{cells_of, open, record_of, step};
 
 extern "C" {
     fn mlgd_check(n: u16, m: u16, rho: u16, gamma: u16, list: *const u16, list_len: usize) -> u64;

@@ -1,11 +1,18 @@
 //! Inputs for the tests and the benchmark, the same for the same seed: accepted parity-check
-//! matrices of many kinds, their codewords, error patterns, damaged matrices.
+//! matrices of many kinds, their codewords, error patterns, noise, damaged matrices, and the
+//! program's input.
 
+pub mod alist;
 pub mod codes;
 pub mod codewords;
 pub mod damage;
+pub mod example;
+pub mod inputs;
+pub mod noise;
 pub mod patterns;
 pub mod random;
+pub mod settings;
+pub mod stream;
 
 pub use codes::Code;
 pub use codewords::Codewords;

@@ -7,14 +7,23 @@
 // The document's own arithmetic is kept.
 #![allow(clippy::manual_div_ceil, clippy::manual_is_multiple_of)]
 
+mod answer;
+mod iterative;
 mod matrix;
 mod one_step;
+mod program;
+mod quantiser;
 mod refusal;
+mod session;
+mod whole;
 mod word;
 
+pub use answer::{Answer, Outcome};
+pub use iterative::{iterative, iterative_accepted};
 pub use matrix::{check, Matrix};
-pub use one_step::{
-    failing, failing_accepted, failing_checks, one_step, one_step_accepted, Answer, Outcome,
-};
+pub use one_step::{failing, failing_accepted, failing_checks, one_step, one_step_accepted};
+pub use program::program;
+pub use quantiser::{check_setting, hard_bit, largest_level, level, quantise, Setting};
 pub use refusal::Refusal;
+pub use session::{open, open_checked, step, step_checked, Session, State};
 pub use word::{byte_count, pack, unpack};

@@ -46,7 +46,7 @@ impl Matrix {
 /// "1: a size out of range, or m × ρ not n × γ."
 ///
 /// "Ranges: n 2 to 1,023; m 1 to 1,023; ρ 2 to 32; γ 1 to 32; m × ρ = n × γ."
-fn sizes_fit(h: &Matrix) -> bool {
+pub(crate) fn sizes_fit(h: &Matrix) -> bool {
     let ones_by_rows = u64::from(h.m) * u64::from(h.rho);
     let ones_by_columns = u64::from(h.n) * u64::from(h.gamma);
     (2..=1023).contains(&h.n)

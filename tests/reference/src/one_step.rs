@@ -1,23 +1,6 @@
+use crate::answer::positions_that_differ;
 use crate::word::spare_place_set;
-use crate::{byte_count, check, pack, unpack, Matrix, Refusal};
-
-/// "decoded or failed".
-#[derive(Clone, Copy, Debug, PartialEq, Eq)]
-pub enum Outcome {
-    Decoded,
-    Failed,
-}
-
-/// "An answer holds: decoded or failed; rounds; failing (checks that fail in the word handed
-/// back, 0 when decoded); changed (positions at which the word handed back differs from the
-/// received word [..])."
-#[derive(Clone, Copy, Debug, PartialEq, Eq)]
-pub struct Answer {
-    pub outcome: Outcome,
-    pub rounds: usize,
-    pub failing: usize,
-    pub changed: usize,
-}
+use crate::{byte_count, check, pack, unpack, Answer, Matrix, Outcome, Refusal};
 
 /// "A check that has an odd number fails."
 fn fails(h: &Matrix, z: &[bool], i: usize) -> bool {
@@ -40,7 +23,7 @@ fn is_flipped(h: &Matrix, z: &[bool], j: usize) -> bool {
 }
 
 /// "7: [..] a received word not exactly its bytes, or a written buffer shorter than needed."
-fn lengths(h: &Matrix, received: &[u8], written: Option<&[u8]>) -> Result<(), Refusal> {
+pub(crate) fn lengths(h: &Matrix, received: &[u8], written: Option<&[u8]>) -> Result<(), Refusal> {
     let needed = byte_count(h.n);
     if received.len() != needed || written.is_some_and(|word| word.len() < needed) {
         return Err(Refusal::plain(7));
@@ -49,7 +32,7 @@ fn lengths(h: &Matrix, received: &[u8], written: Option<&[u8]>) -> Result<(), Re
 }
 
 /// The bits of a received word of the right length, or refusal 9.
-fn received_bits(h: &Matrix, received: &[u8]) -> Result<Vec<bool>, Refusal> {
+pub(crate) fn received_bits(h: &Matrix, received: &[u8]) -> Result<Vec<bool>, Refusal> {
     if spare_place_set(h.n, received) {
         return Err(Refusal::plain(9));
     }
@@ -101,9 +84,7 @@ pub fn one_step_accepted(h: &Matrix, received: &[u8], word: &mut [u8]) -> Result
     } else {
         Outcome::Failed
     };
-    let changed = (0..usize::from(h.n))
-        .filter(|&j| z[j] != received[j])
-        .count();
+    let changed = positions_that_differ(&z, &received);
 
     // "The word is written in either outcome." "Bytes [..] beyond the first needed ones stay."
     word[..byte_count(h.n)].copy_from_slice(&pack(&z));

@@ -3,12 +3,25 @@
 use mathlib.Core.Path.{refl}
 use Prim.Native.Nat.{ℕ}
 use native.Mathlib.Omega.{arith}
+use borrow.Author.Needs.{needs}
 use lib.ListN.{length-replicate}
 use Rattle.quantiser.proofs.Ranges.{fits-reads}
-use Rattle.iterative.proofs.Finishing.{start-ready, start-bits, stop-bits, stop-restorable, packed-room, decoded}
-use borrow.Author.Needs.{needs}
+use Rattle.iterative.proofs.Finishing.{call-ready, call-hard, call-bits, call-restorable, call-decoded, packed-room}
 use Rattle.iterative.proofs.iterative_accepted.Statement.{statement}
 use Rattle.iterative.proofs.iterative_accepted.Tie as tie
+
+-- earlier places of the call, each from a later one
+abbrev entry : tie.After-start → tie.Start
+entry s = s .before .before .before .before .before .before .before .before .before
+
+abbrev middle : tie.After-start → tie.After-middle-of
+middle s = s .before .before .before .before
+
+abbrev started : tie.After-run → tie.After-start
+started r = r .before .before .before .before .before .before .before .before
+
+abbrev ran : tie.After-unbias-arg → tie.After-run
+ran u = u .before .before .before .before .before .before .before
 
 cast-n : tie.Need-cast-n
 cast-n c = search needs
@@ -29,32 +42,40 @@ slice-aggregate-pack-into c = search needs
 
 pack-into-requires : tie.Need-pack-into-requires
 pack-into-requires c κs =
-    let p = c .before .before .before .before .before .before .before .before .before .before .before .before .pre in
-    (p .matrix .sizes .n-most, omega (arith, p .matrix .sizes .n-most), start-bits _ _ _ _ _ p _ _ _ (c .before .before .before .start .ensures))
+    let s = c .before .before .before in
+    let p = entry s .pre in
+    (p .matrix .sizes .n-most, omega (arith, p .matrix .sizes .n-most), call-hard p (s .start .ensures) (middle s .middle-of .ensures))
 
 run-requires : tie.Need-run-requires
 run-requires c κs =
-    let p = c .before .before .before .before .before .before .before .before .before .before .before .before .before .before .before .before .pre in
-    rw (c .before .before .before .before .before .before .before .before .before .before .before .middle-of .ensures) (start-ready _ _ _ _ _ p _ _ _ (c .before .before .before .before .before .before .before .start .ensures))
+    let s = c .before .before .before .before .before .before .before in
+    call-ready (entry s .pre) (s .start .ensures) (middle s .middle-of .ensures)
 
 pack-into-requires-2 : tie.Need-pack-into-requires-2
 pack-into-requires-2 c κs =
-    let p = c .before .before .before .before .before .before .before .before .before .before .before .before .before .before .before .before .before .before .before .pre in
-    (p .matrix .sizes .n-most, p .room-word, stop-bits _ _ _ _ _ p _ _ _ (c .before .before .before .before .before .before .before .before .before .before .start .ensures) _ _ _ _ (rw (c .before .before .before .before .before .before .before .before .before .before .before .before .before .before .middle-of .ensures) at (c .before .before .run .ensures)))
+    let r = c .before .before in
+    let s = started r in
+    let p = entry s .pre in
+    (p .matrix .sizes .n-most, p .room-word, call-bits p (s .start .ensures) (middle s .middle-of .ensures) (r .run .ensures))
 
 unbias-requires : tie.Need-unbias-requires
 unbias-requires c κs =
-    let p = c .before .before .before .before .before .before .before .before .before .before .before .before .before .before .before .before .before .before .before .before .before .before .before .before .pre in
-    rw (c .before .before .before .before .before .before .before .before .before .before .before .before .before .before .before .before .before .before .before .middle-of .ensures) (stop-restorable _ _ _ _ _ p _ _ _ (c .before .before .before .before .before .before .before .before .before .before .before .before .before .before .before .start .ensures) _ _ _ _ (rw (c .before .before .before .before .before .before .before .before .before .before .before .before .before .before .before .before .before .before .before .middle-of .ensures) at (c .before .before .before .before .before .before .before .run .ensures)))
+    let r = ran c in
+    let s = started r in
+    call-restorable (entry s .pre) (s .start .ensures) (middle s .middle-of .ensures) (r .run .ensures)
 
 slice-aggregate-changed-bits : tie.Need-slice-aggregate-changed-bits
 slice-aggregate-changed-bits c = search needs
 
 changed-bits-requires : tie.Need-changed-bits-requires
 changed-bits-requires c κs =
-    let p = c .before .before .before .before .before .before .before .before .before .before .before .before .before .before .before .before .before .before .before .before .before .before .before .before .before .before .before .before .pre in
-    let few = p .matrix .sizes .n-most in
-    (few, packed-room _ _ _ _ (c .before .before .before .before .before .before .before .before .pack-into2 .ensures) (p .room-word), packed-room _ _ _ _ (c .before .before .before .before .before .before .before .before .before .before .before .before .before .before .before .pack-into .ensures) (omega (arith, length-replicate {A = ℕ} 128 0)))
+    let u = c .before .before .before in
+    let r = ran (u .before) in
+    let p = entry (started r) .pre in (
+      p .matrix .sizes .n-most,
+      packed-room _ _ _ _ (u .before .before .before .before .before .pack-into2 .ensures) (p .room-word),
+      packed-room _ _ _ _ (r .before .before .before .before .pack-into .ensures) (omega (arith, length-replicate {A = ℕ} 128 0)),
+    )
 
 ended-requires : tie.Need-ended-requires
 ended-requires c κs = search needs
@@ -67,9 +88,15 @@ same-length-2 c = search needs
 
 returns : tie.Need-returns
 returns c =
-    let p = c .before .before .before .before .before .before .before .before .before .before .before .before .before .before .before .before .before .before .before .before .before .before .before .before .before .before .before .before .before .before .pre in
-    decoded _ _ _ _ _ p _ _ _ (c .before .before .before .before .before .before .before .before .before .before .before .before .before .before .before .before .before .before .before .before .before .start .ensures) _ _ _ _ (rw (c .before .before .before .before .before .before .before .before .before .before .before .before .before .before .before .before .before .before .before .before .before .before .before .before .before .middle-of .ensures) at (c .before .before .before .before .before .before .before .before .before .before .before .before .before .run .ensures)) _ _ _ _ _ _ (c .before .before .before .before .before .before .before .before .before .before .before .before .before .before .before .before .before .pack-into .ensures) (c .before .before .before .before .before .before .before .before .before .before .pack-into2 .ensures)
-    (rw (c .before .before .before .before .before .before .before .before .before .before .before .before .before .before .before .before .before .before .before .before .before .before .before .before .before .middle-of .ensures) at (c .before .before .before .before .before .unbias .ensures)) (c .before .changed-bits .ensures) (c .ended .ensures)
+    let u = c .before .before .before .before .before in
+    let r = ran (u .before) in
+    let s = started r in
+    call-decoded (entry s .pre) (s .start .ensures) (middle s .middle-of .ensures) (r .run .ensures) _
+    (r .before .before .before .before .pack-into .ensures)
+    (u .before .before .before .before .before .pack-into2 .ensures)
+    (u .unbias .ensures)
+    (c .before .changed-bits .ensures)
+    (c .ended .ensures)
 
 pub iterative-accepted-spec : {M : Type 1} → statement M
 iterative-accepted-spec =

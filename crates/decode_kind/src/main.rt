@@ -1,0 +1,4 @@
+// A step of a third kind.
+fn main() {
+    stream::run();
+}

@@ -1,0 +1,4 @@
+// An input that ends inside its second block.
+fn main() {
+    stream::run();
+}

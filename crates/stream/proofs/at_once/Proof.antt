@@ -1,0 +1,29 @@
+-- `stream::at_once` meets its contract: the least of three numbers. Assumes nothing.
+use mathlib.Core.Path.{_≡_, ap, sym, _∙_, subst}
+use Prim.Native.Nat.{ℕ, min, _-_, _/_}
+use Rattle.stream.specs.Reading.{AtOnce}
+use Rattle.stream.proofs.Lining.{at-once}
+use borrow.Author.Needs.{needs}
+use Rattle.stream.proofs.at_once.Statement.{statement}
+use Rattle.stream.proofs.at_once.Tie as tie
+
+sub-left : tie.Need-sub-left
+sub-left c = search needs
+
+div-least : tie.Need-div-least
+div-least c = search needs
+
+least-requires : tie.Need-least-requires
+least-requires c κs = search needs
+
+least-requires-2 : tie.Need-least-requires-2
+least-requires-2 c κs = search needs
+
+returns : tie.Need-returns
+returns c = 
+    let s = c .before .before in
+    let e = c .least2 .ensures ∙ ap (λ (k : ℕ). min k (65535 - s .args .number)) (c .before .least .ensures) in
+    subst (AtOnce (s .args .n) (s .args .number)) (sym e) (at-once (s .args .n) (s .args .number) (s .pre .0) (s .pre .1) (s .pre .2))
+
+pub at-once-spec : {M : Type 1} → statement M
+at-once-spec = tie.close (tie.spec sub-left div-least least-requires least-requires-2 returns)

@@ -1,0 +1,11 @@
+-- `stream::finite_pattern` meets its contract. Assumes nothing.
+use mathlib.Core.Path.{sym}
+use Rattle.stream.proofs.Patterns.{finite-pattern}
+use Rattle.stream.proofs.finite_pattern.Statement.{statement}
+use Rattle.stream.proofs.finite_pattern.Tie as tie
+
+returns : tie.Need-returns
+returns c = sym (finite-pattern (c .args .p))
+
+pub finite-pattern-spec : {M : Type 1} → statement M
+finite-pattern-spec = tie.close (tie.spec returns)

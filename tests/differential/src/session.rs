@@ -1,0 +1,156 @@
+//! Sessions on both sides.
+
+use crate::samples::described_samples;
+use crate::{Guarded, Subject};
+use ffi_face::{cells_of, record_of, Packed};
+use generator::Random;
+use reference::{Answer, Refusal, Session, Setting};
+
+/// What a session's calls are lent to change: the record's cells, the word and the levels.
+#[derive(Clone, Debug, PartialEq)]
+pub struct Lent {
+    pub record: Vec<u16>,
+    pub word: Vec<u8>,
+    pub levels: Vec<i8>,
+}
+
+impl Lent {
+    /// Cells by chance, with a few more than needed in word and levels.
+    pub fn by_chance(subject: &Subject, random: &mut Random) -> Lent {
+        let word = subject.needed() + random.below(4);
+        let levels = usize::from(subject.matrix().n) + random.below(4);
+        Lent {
+            record: (0..8).map(|_| random.below(12) as u16).collect(),
+            word: random.bytes(word),
+            levels: random.bytes(levels).into_iter().map(|b| b as i8).collect(),
+        }
+    }
+
+    /// The reference's side of a call: a record that is not of eight cells is refused as 7 before
+    /// anything else, and a refused call leaves every cell.
+    fn expect(
+        &mut self,
+        call: impl FnOnce(&mut Session, &mut [u8], &mut [i8]) -> Result<Answer, Refusal>,
+    ) -> Packed {
+        let Some(mut record) = record_of(&self.record) else {
+            return Packed::refused(Refusal::plain(7));
+        };
+        let before = record;
+        let answer = call(&mut record, &mut self.word, &mut self.levels);
+        match answer {
+            Ok(_) => self.record = cells_of(&record).to_vec(),
+            Err(_) => assert_eq!(record, before),
+        }
+        Packed::of_voting(answer)
+    }
+}
+
+/// The three buffers between guards.
+struct Guards {
+    record: Guarded<u16>,
+    word: Guarded<u8>,
+    levels: Guarded<i8>,
+}
+
+impl Guards {
+    fn new(lent: &Lent, random: &mut Random) -> Guards {
+        Guards {
+            record: Guarded::new(&lent.record, random),
+            word: Guarded::new(&lent.word, random),
+            levels: Guarded::new(&lent.levels, random),
+        }
+    }
+
+    /// Every cell is as expected, and the guards stand.
+    fn compare(&self, expected: &Lent, call: impl Fn() -> String) {
+        assert_eq!(self.record.lent(), expected.record, "record, {}", call());
+        assert_eq!(self.word.lent(), expected.word, "word, {}", call());
+        assert_eq!(self.levels.lent(), expected.levels, "levels, {}", call());
+        assert!(
+            self.record.guards_stand(),
+            "guards of the record, {}",
+            call()
+        );
+        assert!(self.word.guards_stand(), "guards of the word, {}", call());
+        assert!(
+            self.levels.guards_stand(),
+            "guards of the levels, {}",
+            call()
+        );
+    }
+}
+
+impl Subject {
+    /// Compares an opening; gives its answer. What is lent is then as the call left it.
+    pub fn open(
+        &self,
+        lent: &mut Lent,
+        setting: &Setting,
+        samples: &[f32],
+        random: &mut Random,
+    ) -> Packed {
+        let before = lent.clone();
+        let guarded_samples = Guarded::new(samples, random);
+        let mut guards = Guards::new(lent, random);
+        let expected = lent.expect(|record, word, levels| {
+            reference::open_checked(
+                record,
+                self.matrix(),
+                self.verdict(),
+                setting,
+                samples,
+                word,
+                levels,
+            )
+        });
+        let answer = ffi_face::open(
+            guards.record.lent_mut(),
+            self.lent(),
+            setting,
+            guarded_samples.lent(),
+            guards.word.lent_mut(),
+            guards.levels.lent_mut(),
+        );
+        let call = || {
+            format!(
+                "opening, {setting:?}, {before:?}, {}, {}",
+                self.described(),
+                described_samples(samples)
+            )
+        };
+        assert_eq!(answer, expected, "{}", call());
+        guards.compare(lent, call);
+        assert!(guarded_samples.holds(samples), "samples, {}", call());
+        assert!(self.list_stands(), "list, {}", call());
+        answer
+    }
+
+    /// Compares a step; gives its answer. What is lent is then as the call left it.
+    pub fn step(&self, lent: &mut Lent, received: &[u8], random: &mut Random) -> Packed {
+        let before = lent.clone();
+        let guarded_received = Guarded::new(received, random);
+        let mut guards = Guards::new(lent, random);
+        let expected = lent.expect(|record, word, levels| {
+            let verdict = self.verdict();
+            reference::step_checked(record, self.matrix(), verdict, received, word, levels)
+        });
+        let answer = ffi_face::step(
+            guards.record.lent_mut(),
+            self.lent(),
+            guarded_received.lent(),
+            guards.word.lent_mut(),
+            guards.levels.lent_mut(),
+        );
+        let call = || {
+            format!(
+                "step, {before:?}, received {received:02x?}, {}",
+                self.described()
+            )
+        };
+        assert_eq!(answer, expected, "{}", call());
+        guards.compare(lent, call);
+        assert!(guarded_received.holds(received), "received, {}", call());
+        assert!(self.list_stands(), "list, {}", call());
+        answer
+    }
+}

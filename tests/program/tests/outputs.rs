@@ -1,0 +1,143 @@
+//! What the program prints, for inputs of many kinds.
+
+use generator::{codes, example, inputs, noise, settings, stream, Codewords, Random};
+use program::{assert_same, Program};
+
+/// Whole runs, refused heads and inputs by chance: more than two hundred.
+fn compare_all(inputs: Vec<inputs::Named>, least: usize) {
+    let Some(program) = Program::find() else {
+        return;
+    };
+    assert!(inputs.len() >= least, "{} inputs", inputs.len());
+    for (name, input) in inputs {
+        program.compare(&name, &input);
+    }
+}
+
+#[test]
+fn p6() {
+    let Some(program) = Program::find() else {
+        return;
+    };
+    let samples = vec![0.5, -1.0, -1.0, -1.0, -1.0, -1.0, -1.0];
+    let setting = settings::level_step(3, 5, 0.5);
+    let input = stream::input(&codes::code_a().matrix, &setting, &[samples]);
+    let expected = b"block end rounds failing changed word\n0 decoded 1 0 1 00\n";
+    assert_same("P6", &program.printed(&input), expected);
+}
+
+#[test]
+fn whole_runs() {
+    compare_all(inputs::whole_runs(&mut Random::new(41)), 60);
+}
+
+#[test]
+fn refused_heads() {
+    compare_all(inputs::refused_heads(&mut Random::new(42)), 60);
+}
+
+#[test]
+fn inputs_by_chance() {
+    compare_all(inputs::by_chance(80, &mut Random::new(43)), 80);
+}
+
+/// The codes of the benchmark with the benchmark's setting.
+#[test]
+fn large_codes() {
+    let Some(program) = Program::find() else {
+        return;
+    };
+    let mut random = Random::new(44);
+    for (code, step, deviation) in [
+        (codes::eg1023(), 0.015, 0.51),
+        (codes::qc961(), 0.025, 0.535),
+        (codes::tanner155(), 0.1, 0.585),
+    ] {
+        let codewords = Codewords::of(&code.matrix);
+        let blocks: Vec<Vec<f32>> = (0..8)
+            .map(|_| {
+                let sent = codewords.random(&mut random);
+                noise::received(&sent, deviation, &mut random)
+            })
+            .collect();
+        let setting = settings::level_step(8, 30, step);
+        program.compare(&code.name, &stream::input(&code.matrix, &setting, &blocks));
+    }
+}
+
+/// Every cut point: P6's code with three blocks, the second of them refused.
+#[test]
+fn every_cut_point() {
+    let Some(program) = Program::find() else {
+        return;
+    };
+    let mut blocks = vec![vec![0.5, -1.0, -1.0, -1.0, -1.0, -1.0, -1.0]; 3];
+    blocks[1][4] = f32::NAN;
+    let setting = settings::level_step(3, 5, 0.5);
+    let input = stream::input(&codes::code_a().matrix, &setting, &blocks);
+    for cut in 0..=input.len() {
+        program.compare(&format!("cut at {cut}"), &input[..cut]);
+    }
+    // The same of a head that is refused: n is 255, an entry is above the next, the kind is 2.
+    for (at, byte, line) in [
+        (0, 255, "refused 1 0"),
+        (14, 3, "refused 3 4"),
+        (52, 2, "refused 6 0"),
+    ] {
+        let mut refused = input.clone();
+        refused[at] = byte;
+        let expected = reference::program(&refused);
+        assert_eq!(
+            String::from_utf8(expected).unwrap().lines().nth(1),
+            Some(line)
+        );
+        for cut in [7, 8, 9, 49, 50, 56, 57, 58, refused.len()] {
+            program.compare(&format!("{line}, cut at {cut}"), &refused[..cut]);
+        }
+    }
+}
+
+/// The block set in examples/ gives the lines stored beside it.
+#[test]
+fn the_example() {
+    let Some(program) = Program::find() else {
+        return;
+    };
+    let stored = concat!(env!("CARGO_MANIFEST_DIR"), "/../../examples/expected.txt");
+    let expected = std::fs::read(stored).expect("examples/expected.txt");
+    assert_same(
+        "the example",
+        &program.printed(&example::input()),
+        &expected,
+    );
+}
+
+/// "at most 65,535 are read, then the run ends."
+#[test]
+fn more_than_65_535_blocks() {
+    let Some(program) = Program::find() else {
+        return;
+    };
+    let mut random = Random::new(45);
+    let code = codes::single_row(2);
+    let setting = settings::full_scale(4, 3, 2.0);
+    let mut input = stream::head(&code.matrix, &setting);
+    for _ in 0..65_600 {
+        let choices = [-1.0, -0.2, -0.0, 0.01, 0.6, 3.0, f32::INFINITY];
+        let samples = [*random.pick(&choices), *random.pick(&choices)];
+        input.extend(stream::block(&samples));
+    }
+    let expected = reference::program(&input);
+    let lines = expected.iter().filter(|&&byte| byte == b'\n').count();
+    assert_eq!(lines, 65_536);
+    assert_same("65,600 blocks", &program.printed(&input), &expected);
+    let (head, block) = (8 + 4 + 7, 8);
+    for end in [
+        head + 65_534 * block,
+        head + 65_534 * block + 5,
+        head + 65_535 * block,
+        head + 65_535 * block + 5,
+    ] {
+        program.compare(&format!("{end} bytes"), &input[..end]);
+    }
+}
