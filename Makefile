@@ -1,23 +1,26 @@
 # The shed-link block decoder. `make run` shows it working, `make test` checks everything, `make bench` measures it.
-.PHONY: run test bench fuzz audit prove staticlib tools
+.PHONY: run test bench fuzz audit prove staticlib decode tools
 
 N ?= 20
+SETTING ?= bits 8 limit 30 level-step 0.1
 
-run: tools staticlib
-	cargo run --release --quiet -p ffi_face --example code_a
+# Packs the example block set, decodes it, and prints the program's lines.
+run: tools decode
+	cargo run --release --quiet -p pack -- --matrix examples/tanner155.alist --setting "$(SETTING)" --samples examples/blocks.csv | target/bin/decode
 
 # The layout, the Rust tests, then the gate: its 'N passed, 0 failed' is the last line.
 test: tools
 	rt fmt --check
-	$(MAKE) --no-print-directory staticlib
+	$(MAKE) --no-print-directory staticlib decode
 	cargo test --release --workspace
 	rt ci
 
-bench: tools staticlib
-	cargo run --release --quiet -p bench
+bench: tools staticlib decode
+	cargo build --release --quiet -p bench --features program
+	build/release/bench
 
 # The differential tests with N times as many random inputs.
-fuzz: tools staticlib
+fuzz: tools staticlib decode
 	FUZZ_N=$(N) cargo test --release --workspace
 
 prove: tools
@@ -26,6 +29,10 @@ prove: tools
 # The exported functions as a static library for Rust and C.
 staticlib:
 	rt staticlib ffi
+
+# The program, proved and linked: target/bin/decode.
+decode:
+	rt check decode
 
 # The must-fail edits whose refusal shows nothing.
 audit: tools

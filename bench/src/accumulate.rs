@@ -164,10 +164,9 @@ fn update(
     votes: &[u8; WIDTH],
     gamma: u8,
     largest: u8,
-    n: usize,
+    vectors: usize,
 ) {
-    let blocks = n.div_ceil(16) * 16;
-    for ((x, z), votes) in x[..blocks].iter_mut().zip(&mut z[..blocks]).zip(votes) {
+    for ((x, z), votes) in x[..vectors].iter_mut().zip(&mut z[..vectors]).zip(votes) {
         let doubled = votes + votes;
         let above = doubled.saturating_sub(gamma);
         let below = gamma.saturating_sub(doubled);
@@ -215,7 +214,8 @@ impl Run {
             out.push(b'\n');
             return;
         }
-        cells.hard = cells.z;
+        let vectors = n.div_ceil(16) * 16;
+        cells.hard[..vectors].copy_from_slice(&cells.z[..vectors]);
         let mut rounds = 0;
         // SAFETY: the check has accepted the matrix, so its rows are RHO columns below n, and the
         // places listed are those of rows.
@@ -225,10 +225,17 @@ impl Run {
                 if failing == 0 || rounds == self.limit {
                     break failing;
                 }
-                cells.votes = [0; WIDTH];
+                cells.votes[..vectors].fill(0);
                 add_votes::<RHO>(list, &cells.failing[..failing], &mut cells.votes);
                 let largest = self.quantiser.largest;
-                update(&mut cells.x, &mut cells.z, &cells.votes, gamma, largest, n);
+                update(
+                    &mut cells.x,
+                    &mut cells.z,
+                    &cells.votes,
+                    gamma,
+                    largest,
+                    vectors,
+                );
                 rounds += 1;
             }
         };
@@ -245,7 +252,7 @@ impl Run {
         out.push(b' ');
         decimal(usize::from(changed), out);
         out.push(b' ');
-        hexadecimal(&cells.z[..n], out);
+        hexadecimal(&cells.z, n, out);
         out.push(b'\n');
     }
 
@@ -286,19 +293,26 @@ fn decimal(number: usize, out: &mut Vec<u8>) {
     out.extend(&digits[at..]);
 }
 
-/// The bits packed eight to a byte, two digits a byte.
-fn hexadecimal(bits: &[u8], out: &mut Vec<u8>) {
+/// The bits packed eight to a byte, two digits a byte. Places beyond n are 0.
+fn hexadecimal(z: &[u8; WIDTH], n: usize, out: &mut Vec<u8>) {
     const DIGITS: &[u8; 16] = b"0123456789abcdef";
-    for eight in bits.chunks(8) {
-        let mut byte = 0;
-        for (k, bit) in eight.iter().enumerate() {
-            byte |= bit << (7 - k);
-        }
-        out.extend([
-            DIGITS[usize::from(byte >> 4)],
-            DIGITS[usize::from(byte & 15)],
-        ]);
+    let mut digits = [0; WIDTH / 4];
+    let bytes = n.div_ceil(8);
+    for (two, eight) in digits
+        .chunks_exact_mut(2)
+        .zip(z.chunks_exact(8))
+        .take(bytes)
+    {
+        let byte = packed(eight.try_into().unwrap());
+        two.copy_from_slice(&[DIGITS[byte >> 4], DIGITS[byte & 15]]);
     }
+    out.extend(&digits[..2 * bytes]);
+}
+
+/// Eight bits in eight bytes, the first in the highest place.
+fn packed(eight: [u8; 8]) -> usize {
+    let spread = u64::from_le_bytes(eight).wrapping_mul(0x8040_2010_0804_0201);
+    (spread >> 56) as usize
 }
 
 /// What the program prints for an input.

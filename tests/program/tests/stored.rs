@@ -1,0 +1,33 @@
+//! What each program of the gate must write is what the reference prints for its stored input.
+
+use program::assert_same;
+use std::fs;
+use std::path::{Path, PathBuf};
+
+fn root() -> PathBuf {
+    Path::new(env!("CARGO_MANIFEST_DIR")).join("../..")
+}
+
+#[test]
+fn every_stored_output_is_the_reference_s() {
+    let mut seen = 0;
+    for entry in fs::read_dir(root().join("crates")).expect("the folder crates/") {
+        let folder = entry.expect("a crate's folder").path();
+        let name = folder.file_name().unwrap().to_string_lossy().into_owned();
+        if !name.starts_with("decode") {
+            continue;
+        }
+        let input = fs::read(folder.join("stdin")).expect("stdin");
+        let output = fs::read(folder.join("stdout")).expect("stdout");
+        assert_same(&name, &output, &reference::program(&input));
+        seen += 1;
+    }
+    assert!(seen >= 8, "{seen} programs");
+}
+
+#[test]
+fn the_example_s_output_is_the_stored_one() {
+    let expected = fs::read(root().join("examples/expected.txt")).expect("examples/expected.txt");
+    let stored = fs::read(root().join("crates/decode_examples/stdout")).expect("stdout");
+    assert_eq!(stored, expected);
+}
