@@ -9,7 +9,7 @@ use Rattle.answers.specs.declared.Outcome.{Outcome}
 use Rattle.answers.specs.declared.Outcome.the-variants.{Decoded, Failed, Working}
 use Rattle.answers.specs.declared.Report.{Report}
 use Rattle.answers.specs.declared.Refusal.{Refusal}
-use Rattle.answers.specs.declared.Refusal.the-variants.{Sizes, Length, Entry, Weight, Overlap, Setting, Buffer, Sample, Spare}
+use Rattle.answers.specs.declared.Refusal.the-variants.{Sizes, Length, Entry, Weight, Overlap, Setting, Buffer, Sample, Spare, Record, Ended, OtherSizes, Beyond}
 use Rattle.answers.specs.declared.Answer.{Answer}
 use Rattle.answers.specs.declared.Answer.the-variants as answer
 use Rattle.answers.specs.declared.Checked.{Checked}
@@ -27,6 +27,10 @@ numberOf Setting = 6
 numberOf Buffer = 7
 numberOf (Sample j) = 8
 numberOf Spare = 9
+numberOf Record = 20
+numberOf Ended = 21
+numberOf OtherSizes = 22
+numberOf Beyond = 23
 
 abbrev pub placeOf : Refusal → ℕ
 placeOf Sizes = 0
@@ -38,6 +42,10 @@ placeOf Setting = 0
 placeOf Buffer = 0
 placeOf (Sample j) = j
 placeOf Spare = 0
+placeOf Record = 0
+placeOf Ended = 0
+placeOf OtherSizes = 0
+placeOf Beyond = 0
 
 abbrev pub outcomeOf : Outcome → ℕ
 outcomeOf Decoded = 0

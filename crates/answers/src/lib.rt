@@ -1,6 +1,6 @@
 // What the calls answer: refusals, outcomes and reports by value.
 // specs/Answers.antt gives document 01's numbers for each case, and every contract speaks through it.
-// Rests on nothing. Document 01: "Refused for the input", and what an answer holds ("Iterative voting").
+// Rests on nothing. Document 01: "Refused for the input", "Refused for the session", and what an answer holds ("Iterative voting").
 ghost use mathlib.Core.Path.{_≡_};
 ghost use Rattle.answers.specs.Answers.{numberOf, placeOf, outcomeOf};
 
@@ -15,6 +15,10 @@ pub enum Refusal {
     Buffer,
     Sample(u16),
     Spare,
+    Record,
+    Ended,
+    OtherSizes,
+    Beyond,
 }
 
 // How decoding stands.
@@ -64,6 +68,10 @@ pub fn number(f: Refusal) -> u16
         Refusal::Buffer => 7,
         Refusal::Sample(_) => 8,
         Refusal::Spare => 9,
+        Refusal::Record => 20,
+        Refusal::Ended => 21,
+        Refusal::OtherSizes => 22,
+        Refusal::Beyond => 23,
     }
 }
 
@@ -81,6 +89,10 @@ pub fn place(f: Refusal) -> u16
         Refusal::Buffer => 0,
         Refusal::Sample(j) => j,
         Refusal::Spare => 0,
+        Refusal::Record => 0,
+        Refusal::Ended => 0,
+        Refusal::OtherSizes => 0,
+        Refusal::Beyond => 0,
     }
 }
 

@@ -69,7 +69,7 @@ module _ (v : Verdict) where
       go accepted = refl
       go (refused k x) = refl
 
-unfit-verdict : (H : Matrix) (S : Choice) (xs : List Float) (b l : ℕ) → settingFits S ≡ false
+pub unfit-verdict : (H : Matrix) (S : Choice) (xs : List Float) (b l : ℕ) → settingFits S ≡ false
     → iterativeVerdict H S xs b l ≡ andThen (checkOf H) (refused 6 0)
 unfolding iterativeVerdict
 unfit-verdict H S xs b l e = rw e

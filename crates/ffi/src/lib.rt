@@ -8,8 +8,10 @@ use answers::Report;
 use parity_check::Shape;
 use quantiser::Setting;
 use quantiser::Step;
+use session::Session;
+use session::Turn;
 ghost use mathlib.Core.Path.{_≡_};
-ghost use Prim.Native.Nat.{_+_, _*_};
+ghost use Prim.Native.Nat.{_+_, _*_, _≤_};
 ghost use lib.ListN.{length};
 ghost use Rattle.answers.specs.Paper.{report, after, written};
 ghost use Rattle.answers.specs.Answers.{numberOf, placeOf, reportOf, saidOf, verdictOf, countedOf};
@@ -21,7 +23,11 @@ ghost use Rattle.syndrome.specs.Failing.{failingOf};
 ghost use Rattle.majority_logic.specs.OneStep.{oneStepReport, oneStepVerdict, oneStepOf, oneStepWord};
 ghost use Rattle.one_step.specs.Stepped.{Lent};
 ghost use Rattle.quantiser.specs.Settings.{choiceOf};
+ghost use Rattle.session.specs.Sessions.{recordOf};
+ghost use Rattle.session.specs.Stepping.{lent};
+ghost use Rattle.session.specs.Steps.{openOf, stepOf};
 ghost use Rattle.ffi.specs.Codes.{codeOf, Small};
+ghost use Rattle.ffi.specs.Records.{recordIn, cellsOf, onRecord, writtenBy, CalledAs};
 ghost use Rattle.ffi.specs.Settings.{choice, StandsFor, QuantisedAs, DecodedAs};
 
 // A refusal: its number and its place.
@@ -187,6 +193,116 @@ pub extern "C" fn mlgd_iterative(
     let setting = setting_of(bits, limit, kind, step);
     let a = iterative::iterative(shape, list, setting, samples, word, levels);
     answer_code(a)
+}
+
+// The session that eight cells are.
+fn session_in(cells: &[u16]) -> Session
+    requires { ⌜ length (now cells) ≡ 8 ⌝ }
+    ensures { λ r. ⌜ recordOf r ≡ recordIn (now (cells .entry)) ⌝ }
+{
+    let state = session::state_of(cells[0]);
+    Session {
+        state,
+        bits: cells[1],
+        limit: cells[2],
+        k: cells[3],
+        n: cells[4],
+        m: cells[5],
+        rho: cells[6],
+        gamma: cells[7],
+    }
+}
+
+// Copies `from` to the front of the cells.
+fn copy_front(from: &[u16], cells: &mut [u16])
+    requires { ⌜ length (now from) ≤ length (now cells) ⌝ }
+    ensures { λ _. ⌜ now (cells .exit) ≡ over (now (from .entry)) (now (cells .entry)) ⌝ }
+{
+    let mut i = 0;
+    while i < from.len() {
+        cells[i] = from[i];
+        i += 1;
+    }
+}
+
+// The cells of a session.
+fn session_out(s: Session, cells: &mut [u16])
+    requires { ⌜ length (now cells) ≡ 8 ⌝ }
+    ensures { λ _. ⌜ now (cells .exit) ≡ over (cellsOf (recordOf s)) (now (cells .entry)) ⌝ }
+{
+    let state = s.state;
+    let number = session::number_of(state);
+    let from = [number, s.bits, s.limit, s.k, s.n, s.m, s.rho, s.gamma];
+    copy_front(&from, cells);
+}
+
+// The code of a turn. The record is brought up to date unless the call was refused.
+fn turn_code(turn: Turn, cells: &mut [u16]) -> u64
+    requires { ⌜ (length (now cells) ≡ 8) × Small (saidOf (turn .answer)) ⌝ }
+    ensures { λ r. ⌜ (r ≡ codeOf (saidOf (turn .answer))) × (now (cells .exit) ≡ writtenBy (saidOf (turn .answer)) (cellsOf (recordOf (turn .session))) (now (cells .entry))) ⌝ }
+{
+    let answer = turn.answer;
+    let s = turn.session;
+    match answer {
+        Answer::Done(p) => {
+            session_out(s, cells);
+            report_code(p)
+        }
+        Answer::Refused(f) => refusal_code(f),
+    }
+}
+
+// Opening a session.
+#[no_mangle]
+pub extern "C" fn mlgd_open(
+    cells: &mut [u16],
+    n: u16,
+    m: u16,
+    rho: u16,
+    gamma: u16,
+    list: &[u16],
+    bits: u16,
+    limit: u16,
+    kind: u16,
+    step: f32,
+    samples: &[f32],
+    word: &mut [u8],
+    levels: &mut [i8],
+) -> u64
+    ensures { λ r. ⌜ CalledAs (onRecord (now (cells .entry)) (openOf (matrix n m rho gamma (now (list .entry))) (choice bits limit kind step) (now (samples .entry)) (lent (recordIn (now (cells .entry))) (now (word .entry)) (now (levels .entry)))) (lent (recordIn (now (cells .entry))) (now (word .entry)) (now (levels .entry)))) r (now (cells .entry)) (now (cells .exit)) (now (word .exit)) (now (levels .exit)) ⌝ }
+{
+    if cells.len() != 8 {
+        return 458752;
+    }
+    let shape = Shape { n, m, rho, gamma };
+    let setting = setting_of(bits, limit, kind, step);
+    let s = session_in(cells);
+    let turn = session::open_copy(s, shape, list, setting, samples, word, levels);
+    turn_code(turn, cells)
+}
+
+// One step of a session.
+#[no_mangle]
+pub extern "C" fn mlgd_step(
+    cells: &mut [u16],
+    n: u16,
+    m: u16,
+    rho: u16,
+    gamma: u16,
+    list: &[u16],
+    received: &[u8],
+    word: &mut [u8],
+    levels: &mut [i8],
+) -> u64
+    ensures { λ r. ⌜ CalledAs (onRecord (now (cells .entry)) (stepOf (matrix n m rho gamma (now (list .entry))) (now (received .entry)) (lent (recordIn (now (cells .entry))) (now (word .entry)) (now (levels .entry)))) (lent (recordIn (now (cells .entry))) (now (word .entry)) (now (levels .entry)))) r (now (cells .entry)) (now (cells .exit)) (now (word .exit)) (now (levels .exit)) ⌝ }
+{
+    if cells.len() != 8 {
+        return 458752;
+    }
+    let shape = Shape { n, m, rho, gamma };
+    let s = session_in(cells);
+    let turn = session::step_copy(s, shape, list, received, word, levels);
+    turn_code(turn, cells)
 }
 
 // One-step voting on a matrix that the check has accepted, a word and a buffer that suit it: for the benchmark alone, which asks `mlgd_check` first.

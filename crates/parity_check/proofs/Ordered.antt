@@ -20,8 +20,11 @@ module _ {H : Matrix} (z : Sized H) where
   in-list i k l h = stands H (z .whole) i k l h
 
 module _ {H : Matrix} (o : Ordered H) where
+  pub column-in : (i k : ℕ) → i < H .m → k < H .rho → entry H i k < H .n
+  column-in = clear-below H (o .sized .whole) (o .clear)
+
   pub column-below : (i k : ℕ) → i < H .m → k < H .rho → entry H i k < 1023
-  column-below i k l h = omega (arith, clear-below H (o .sized .whole) (o .clear) i k l h, o .sized .sizes .n-most)
+  column-below i k l h = omega (arith, column-in i k l h, o .sized .sizes .n-most)
 
   pub columns-ascend : (i k : ℕ) → i < H .m → suc k < H .rho → entry H i k < entry H i (suc k)
   columns-ascend = clear-ascending H (o .sized .whole) (o .clear)

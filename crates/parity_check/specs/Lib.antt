@@ -4,4 +4,4 @@ pub mod Check
 pub mod Reading
 pub mod Shapes
 pub mod Walking
-pub mod Pairs
+pub mod Meeting

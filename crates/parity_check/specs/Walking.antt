@@ -28,9 +28,10 @@ pub record Ordered (H : Matrix) : Type 0 where
   pub sized : Sized H
   pub clear : Never (BadEntry H) (length (H .list))
 
--- the k-th column number of row i as the code has it: one of the 1,023 of an array
+-- the k-th column number of row i as the code has it: a column of the matrix, and one of the 1,023 of an array
 pub record Column (H : Matrix) (i k c : ℕ) : Type 0 where
   pub is : c ≡ entry H i k
+  pub inside : c < H .n
   pub below : c < 1023
 
 -- the array of the columns, each with how often it came

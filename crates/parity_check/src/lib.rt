@@ -14,7 +14,7 @@ ghost use Rattle.parity_check.specs.Check.{within, sizesFit, badEntry, o
 ghost use Rattle.parity_check.specs.Reading.{Overlap, Never};
 ghost use Rattle.parity_check.specs.Shapes.{matrixOf};
 ghost use Rattle.parity_check.specs.Walking.{Sized, Ordered, Column, Tally, listAt, Walked, offWeight};
-ghost use Rattle.parity_check.specs.Pairs.{Put, Grown, Beside, PairsOf};
+ghost use Rattle.parity_check.specs.Meeting.{Meets, MetOnce, bitFor, Grown, Noted, PartClear};
 
 // The sizes of a matrix: columns, rows, ones in each row, ones in each column.
 pub struct Shape {
@@ -22,6 +22,12 @@ pub struct Shape {
     pub m: u16,
     pub rho: u16,
     pub gamma: u16,
+}
+
+// The bits that were met in one word after another, and those of them that were met twice.
+struct Met {
+    once: u64,
+    twice: u64,
 }
 
 // Whether x lies from lo to hi.
@@ -185,71 +191,116 @@ fn exact_overlap(shape: Shape, list: &[u16]) -> usize
     first
 }
 
-// Puts the pairs of column a with the columns of `row` into the set, 64 pairs at a time: the set has 16 words for each column.
-// Columns ascend in a row, so those met before a lie in the words up to its own. The answer is 0 where no pair was there before.
-fn put_beside(set: &mut [u64; 16384], a: usize, row: &[u64; 16]) -> u64
-    requires { ⌜ (a < 1023) × (length (now set) ≡ 16384) ⌝ }
-    ensures { λ r. ⌜ Put (Beside a (now (row .entry)) (a / 64 + 1)) (now (set .entry)) (now (set .exit)) r ⌝ }
+// Meets the bits of word `at` of the rows seen.
+fn meet(met: Met, seen: &[u64], at: usize) -> Met
+    requires { ⌜ at < length (now seen) ⌝ }
+    ensures { λ r. ⌜ Meets met (getD (now (seen .entry)) at 0) r ⌝ }
 {
-    let words = a / 64 + 1;
-    let mut twice: u64 = 0;
-    let mut v = 0;
-    while v < words {
-        let at = a * 16 + v;
-        let new = row[v];
-        let old = set[at];
-        twice = twice | (old & new);
-        set[at] = old | new;
-        v += 1;
+    let word = seen[at];
+    Met {
+        once: met.once | word,
+        twice: met.twice | (met.once & word),
     }
-    twice
 }
 
-// Puts column a into the columns of a row, one bit each.
-fn put_column(row: &mut [u64; 16], a: usize)
-    requires { ⌜ (a < 1023) × (length (now row) ≡ 16) ⌝ }
-    ensures { λ _. ⌜ Grown a (now (row .entry)) (now (row .exit)) ⌝ }
-{
-    row[a / 64] = row[a / 64] | (1 << (a % 64));
-}
-
-// Puts the pairs of columns of row i into the set. The answer is 0 where no pair was there before.
-fn put_row(shape: Shape, list: &[u16], i: usize, set: &mut [u64; 16384]) -> u64
-    requires { ⌜ Ordered (matrixOf shape (now list)) × (i < shape .m) × (length (now set) ≡ 16384) ⌝ }
-    ensures { λ r. ⌜ Put (PairsOf (matrixOf shape (now (list .entry))) i (shape .rho)) (now (set .entry)) (now (set .exit)) r ⌝ }
+// Meets the rows seen in the columns of row i: each column has four words, one bit for each row of a part.
+// The answer is 0 where no row is met twice, so none has two columns of row i.
+fn met_twice(shape: Shape, list: &[u16], i: usize, seen: &[u64]) -> u64
+    requires { ⌜ Ordered (matrixOf shape (now list)) × (i < shape .m) × (shape .n * 4 ≤ length (now seen)) ⌝ }
+    ensures { λ r. ⌜ (r ≡ 0 → MetOnce (matrixOf shape (now (list .entry))) i (now (seen .entry))) ⌝ }
 {
     let rho = shape.rho as usize;
-    let mut row = [0u64; 16];
-    let mut twice: u64 = 0;
+    let mut a = Met { once: 0, twice: 0 };
+    let mut b = Met { once: 0, twice: 0 };
+    let mut c = Met { once: 0, twice: 0 };
+    let mut d = Met { once: 0, twice: 0 };
     let mut k = 0;
     while k < rho {
-        let a = column(shape, list, i, k);
-        twice = twice | put_beside(set, a, &row);
-        put_column(&mut row, a);
+        let at = column(shape, list, i, k) * 4;
+        a = meet(a, seen, at);
+        b = meet(b, seen, at + 1);
+        c = meet(c, seen, at + 2);
+        d = meet(d, seen, at + 3);
         k += 1;
     }
-    twice
+    a.twice | b.twice | c.twice | d.twice
 }
 
-// Whether a pair of columns is met twice. Where it is not, no two rows share two columns.
-fn pair_twice(shape: Shape, list: &[u16]) -> bool
-    requires { ⌜ Ordered (matrixOf shape (now list)) ⌝ }
-    ensures { λ r. ⌜ (r ≡ false → Never (Overlap (matrixOf shape (now (list .entry)))) (shape .m)) ⌝ }
+// Notes that row i has column c.
+fn note(seen: &mut [u64], c: usize, i: usize)
+    requires { ⌜ c * 4 + 3 < length (now seen) ⌝ }
+    ensures { λ _. ⌜ Grown (bitFor c i) (now (seen .entry)) (now (seen .exit)) ⌝ }
+{
+    let at = c * 4 + i / 64 % 4;
+    seen[at] = seen[at] | (1 << (i % 64));
+}
+
+// Notes the columns of row i, where it is one of the part's 256 rows.
+fn note_row(shape: Shape, list: &[u16], part: usize, i: usize, seen: &mut [u64])
+    requires { ⌜ Ordered (matrixOf shape (now list)) × (i < shape .m) × (shape .n * 4 ≤ length (now seen)) ⌝ }
+    ensures { λ _. ⌜ Noted (matrixOf shape (now (list .entry))) part i (now (seen .entry)) (now (seen .exit)) ⌝ }
+{
+    let rho = shape.rho as usize;
+    if i / 256 != part {
+        return;
+    }
+    let mut k = 0;
+    while k < rho {
+        note(seen, column(shape, list, i, k), i);
+        k += 1;
+    }
+}
+
+// Whether a row of the part is met twice by a later row. What is seen already may be any bits: they can make
+// the answer true, not false.
+fn rows_twice(shape: Shape, list: &[u16], part: usize, seen: &mut [u64]) -> bool
+    requires { ⌜ Ordered (matrixOf shape (now list)) × (part * 256 < shape .m) × (shape .n * 4 ≤ length (now seen)) ⌝ }
+    ensures { λ r. ⌜ (r ≡ false → PartClear (matrixOf shape (now (list .entry))) part) ⌝ }
 {
     let m = shape.m as usize;
-    let mut set = [0u64; 16384];
-    let mut i = 0;
+    let mut i = part * 256;
     while i < m {
-        if put_row(shape, list, i, &mut set) != 0 {
+        if met_twice(shape, list, i, seen) != 0 {
             return true;
         }
+        note_row(shape, list, part, i, seen);
         i += 1;
     }
     false
 }
 
+// The same in memory of its own. Few columns get less of it, since clearing it takes longer than their search.
+fn part_twice(shape: Shape, list: &[u16], part: usize) -> bool
+    requires { ⌜ Ordered (matrixOf shape (now list)) × (part * 256 < shape .m) ⌝ }
+    ensures { λ r. ⌜ (r ≡ false → PartClear (matrixOf shape (now (list .entry))) part) ⌝ }
+{
+    if shape.n <= 256 {
+        let mut few = [0u64; 1024];
+        return rows_twice(shape, list, part, &mut few);
+    }
+    let mut all = [0u64; 4096];
+    rows_twice(shape, list, part, &mut all)
+}
+
+// Whether a pair of columns is met twice. Where it is not, no two rows share two columns.
+// The rows are taken in parts of 256: what is seen of one part stays in the nearest cache, of all rows it does not.
+fn pair_twice(shape: Shape, list: &[u16]) -> bool
+    requires { ⌜ Ordered (matrixOf shape (now list)) ⌝ }
+    ensures { λ r. ⌜ (r ≡ false → Never (Overlap (matrixOf shape (now (list .entry)))) (shape .m)) ⌝ }
+{
+    let m = shape.m as usize;
+    let mut part = 0;
+    while part * 256 < m {
+        if part_twice(shape, list, part) {
+            return true;
+        }
+        part += 1;
+    }
+    false
+}
+
 // The first row that shares two columns or more with a later row, else m.
-// An accepted matrix has none, which one pass over its rows shows: the exact search is for a refused one.
+// An accepted matrix has none, which `pair_twice` shows soon: the exact search is for a refused one.
 fn first_overlap(shape: Shape, list: &[u16]) -> usize
     requires { ⌜ Ordered (matrixOf shape (now list)) ⌝ }
     ensures { λ r. ⌜ r ≡ first (overlapping (matrixOf shape (now (list .entry)))) (shape .m) ⌝ }

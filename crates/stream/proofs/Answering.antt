@@ -82,5 +82,5 @@ module _ (H : Matrix) (S : Choice) (bs : List ℕ) where
   answered {w} e q d =
       record {
         answer = rw e (d .answer ∙ ap (λ (x : List Float). reportAt H (hardBit x) (endFrom H S x)) q);
-        word = rw e (d .word ∙ ap (λ (x : List Float). over (iterativeWord H S x) w) q)
+        word = rw e (d .word ∙ ap (λ (x : List Float). over (iterativeWord H S x) w) q);
       }

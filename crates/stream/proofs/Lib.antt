@@ -3,4 +3,3 @@ pub mod Answering
 pub mod Settings
 pub mod Openings
 pub mod Lining
-

@@ -96,7 +96,7 @@ module _ (H : Matrix) (S : Choice) where
             record {
               decodable = c .decodable;
               bytes = simp (length-take, length-drop) (omega (arith, l .inside));
-              room = omega (arith, c .room, counted, l .put .within, put-length (l .put .put))
+              room = omega (arith, c .room, counted, l .put .within, put-length (l .put .put));
             }
 
         -- and then there is one line more
@@ -108,8 +108,8 @@ module _ (H : Matrix) (S : Choice) where
               inside = omega (arith, l .inside, some);
               put = record {
                 put = put-as (rw (part, add-one k)) (put-then (l .put .put) (p .put));
-                within = omega (arith, l .put .within, p .within)
-              }
+                within = omega (arith, l .put .within, p .within);
+              };
             }
 
       -- all lines

@@ -1,11 +1,11 @@
 // The program: its input and its output as functions on slices, and the run over standard input and output.
 // Rests on `text`, `iterative`, `quantiser` and `parity_check`; `io` and `libc` read and write.
 // Document 01: "Worked by hand", the paragraph on the program.
-use libc::STDIN_FILENO;
-use libc::STDOUT_FILENO;
 use answers::Answer;
 use answers::Checked;
 use answers::Refusal;
+use libc::STDIN_FILENO;
+use libc::STDOUT_FILENO;
 use parity_check::Shape;
 use quantiser::Setting;
 use quantiser::Step;

@@ -18,7 +18,7 @@ pub put-then : {s t : List ℕ} {at mid end : ℕ} {a b c : List ℕ} → Put s 
 put-then {s} {t} {at} {mid} {end} {a} {b} {c} p q =
     record {
       bytes = q .bytes ∙ ap (λ (x : List ℕ). sets x mid t) (p .bytes) ∙ ap (λ (x : ℕ). sets (sets a at s) x t) (p .ends) ∙ sym (sets-append a at s t);
-      ends = omega (arith, p .ends, q .ends, length-append s t)
+      ends = omega (arith, p .ends, q .ends, length-append s t);
     }
 
 -- an equal text

@@ -4,7 +4,7 @@ use Prim.Native.Nat.{_+_, _*_}
 use native.Mathlib.Omega.{arith}
 use borrow.Author.Needs.{needs}
 use Rattle.parity_check.specs.Code.{entry}
-use Rattle.parity_check.proofs.Ordered.{few, in-list, column-below}
+use Rattle.parity_check.proofs.Ordered.{few, in-list, column-in, column-below}
 use Rattle.parity_check.proofs.column.Statement.{statement}
 use Rattle.parity_check.proofs.column.Tie as tie
 
@@ -40,7 +40,7 @@ returns : tie.Need-returns
 unfolding entry
 returns c =
     let p = c .before .before .pre in
-    record { is = refl; below = column-below (p .0) _ _ (p .1) (p .2) }
+    record { is = refl; inside = column-in (p .0) _ _ (p .1) (p .2); below = column-below (p .0) _ _ (p .1) (p .2) }
 
 pub column-spec : {M : Type 1} → statement M
 column-spec =

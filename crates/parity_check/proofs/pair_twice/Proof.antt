@@ -1,58 +1,53 @@
--- `parity_check::pair_twice` meets its contract. The loop's invariant: the set has the pairs of the rows passed, and no two of these have one in common. Assumes nothing.
-use mathlib.Core.Path.{_≡_, _∙_}
-use Prim.Native.Nat.{ℕ, _-_, _≤_}
+-- `parity_check::pair_twice` meets its contract. The loop's invariant: no row of the parts passed has two columns in common with a later row. Assumes nothing.
+use Prim.Native.Nat.{ℕ, _-_, _≤_, _<_}
 use native.Mathlib.Omega.{arith}
-use lib.ListN.{length, length-replicate}
+use borrow.Author.Count.{below-more}
 use Rattle.counting.proofs.Searches.{never}
 use Rattle.parity_check.specs.Shapes.{matrixOf}
-use Rattle.parity_check.proofs.Ordered.{columns-ascend}
-use Rattle.parity_check.proofs.Pairs.{RowsHeld, Apart, held-more, apart-more, apart-never}
+use Rattle.parity_check.specs.Meeting.{PartClear}
+use Rattle.parity_check.proofs.Meeting.{parts-clear}
 use Rattle.parity_check.proofs.pair_twice.Statement.{statement}
 use Rattle.parity_check.proofs.pair_twice.Tie as tie
 
 abbrev Inv-loop : tie.InvT-loop
-Inv-loop shape list m set₀ i₀ set i =
-    (i ≤ m) × (length set ≡ 16384) × RowsHeld (matrixOf shape list) i set × Apart (matrixOf shape list) i
+Inv-loop shape list m part₀ part =
+    (part ≤ m) × ((p : ℕ) → p < part → PartClear (matrixOf shape list) p)
 
 abbrev μ-loop : tie.MeasureT-loop
-μ-loop shape list m set₀ i₀ set i = m - i
+μ-loop shape list m part₀ part = m - part
 
 cast-m : tie.Need-cast-m Inv-loop μ-loop
 cast-m c = omega arith
 
 loop-holds : tie.Need-loop-holds Inv-loop μ-loop
-loop-holds c = (omega arith, length-replicate {A = ℕ} 16384 0, λ i l. absurd (omega arith), λ i l. absurd (omega arith))
+loop-holds c = (omega arith, λ p l. absurd (omega arith))
 
-put-row-requires : tie.Need-put-row-requires Inv-loop μ-loop
-put-row-requires c κs = (c .before .before .before .before .before .pre, omega arith, c .before .before .loop .inv .1)
+mul-loop : tie.Need-mul-loop Inv-loop μ-loop
+mul-loop c = omega arith
+
+part-twice-requires : tie.Need-part-twice-requires Inv-loop μ-loop
+part-twice-requires c κs = (c .before .before .before .before .pre, omega arith)
 
 returns : tie.Need-returns Inv-loop μ-loop
 returns c = λ e. absurd (never e)
 
-add-i : tie.Need-add-i Inv-loop μ-loop
-add-i c = omega arith
+add-part : tie.Need-add-part Inv-loop μ-loop
+add-part c = omega arith
 
 loop-less : tie.Need-loop-less Inv-loop μ-loop
 loop-less c = omega arith
 
 loop-again : tie.Need-loop-again Inv-loop μ-loop
 loop-again c =
-    let a = c .before .before .before .before .before .before .before .args in
-    let H = matrixOf (a .shape) (a .list .now) in
-    let l = c .before .before .before .before .loop in
-    let p = c .before .put-row in
-    let set′ = p .last .1 .1 .1 .0 in (
-      omega arith,
-      p .ensures .long ∙ l .inv .1,
-      held-more H (l .i) (l .set) set′ (p .result) (p .ensures) (l .inv .2),
-      apart-more H (l .i) (l .set) set′ (p .result) (p .ensures) (l .inv .2) (c .if1 .left) (l .inv .3),
-    )
+    let a = c .before .before .before .before .before .before .args in
+    let l = c .before .before .before .loop in
+    (omega arith, below-more (PartClear (matrixOf (a .shape) (a .list .now))) (l .part) (l .inv .1) (c .before .part-twice .ensures (c .if1 .left)))
 
 returns-2 : tie.Need-returns-2 Inv-loop μ-loop
 returns-2 c =
-    let b = c .before .before .before .before in
+    let a = c .before .before .before .before .args in
     let l = c .before .loop in
-    λ _. apart-never (matrixOf (b .args .shape) (b .args .list .now)) (columns-ascend (b .pre)) (λ i h. l .inv .3 i (omega arith))
+    λ _. parts-clear (matrixOf (a .shape) (a .list .now)) (l .part) (omega arith) (l .inv .1)
 
 pub pair-twice-spec : {M : Type 1} → statement M
 pair-twice-spec =
@@ -62,9 +57,10 @@ pair-twice-spec =
     μ-loop
     cast-m
     loop-holds
-    put-row-requires
+    mul-loop
+    part-twice-requires
     returns
-    add-i
+    add-part
     loop-less
     loop-again
     returns-2)

@@ -20,7 +20,7 @@ least-requires-2 : tie.Need-least-requires-2
 least-requires-2 c κs = search needs
 
 returns : tie.Need-returns
-returns c = 
+returns c =
     let s = c .before .before in
     let e = c .least2 .ensures ∙ ap (λ (k : ℕ). min k (65535 - s .args .number)) (c .before .least .ensures) in
     subst (AtOnce (s .args .n) (s .args .number)) (sym e) (at-once (s .args .n) (s .args .number) (s .pre .0) (s .pre .1) (s .pre .2))

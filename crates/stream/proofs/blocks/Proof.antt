@@ -21,7 +21,7 @@ slice-aggregate-turn : tie.Need-slice-aggregate-turn Inv-loop μ-loop
 slice-aggregate-turn c = search needs
 
 turn-requires : tie.Need-turn-requires Inv-loop μ-loop
-turn-requires c κs = 
+turn-requires c κs =
     let l = c .before .before .before in
     (l .before .before .before .pre .0, c .before .before .loop-test .taken, l .loop .inv .0, l .loop .inv .1)
 
@@ -29,7 +29,7 @@ loop-less : tie.Need-loop-less Inv-loop μ-loop
 loop-less c = omega arith
 
 loop-again : tie.Need-loop-again Inv-loop μ-loop
-loop-again c = 
+loop-again c =
     let l = c .before .before .before .before .before .before .before in
     (omega (arith, l .loop .inv .0), record { little = omega arith; long = omega (arith, l .loop .inv .1 .long) })
 

@@ -22,7 +22,7 @@ same-length : tie.Need-same-length
 same-length c = search needs
 
 returns : tie.Need-returns
-returns c = 
+returns c =
     let p = c .before .before .before in
     let s = p .before .before .before .before .before .before in
     chunk-whole (matrixOf (s .args .shape) (s .args .list .now)) (choiceOf (s .args .setting)) (s .args .number) (s .args .bytes .now) (s .args .at) (s .args .out .now)
@@ -35,7 +35,7 @@ same-length-2 : tie.Need-same-length-2
 same-length-2 c = search needs
 
 returns-2 : tie.Need-returns-2
-returns-2 c = 
+returns-2 c =
     let q = c .before .before in
     let p = q .before .before .before .before .before in
     let s = p .before .before .before .before .before .before in

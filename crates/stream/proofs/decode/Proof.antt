@@ -28,7 +28,7 @@ cast-t14 : tie.Need-cast-t14
 cast-t14 c = search needs
 
 returns : tie.Need-returns
-returns c = 
+returns c =
     let p = c .before .before in
     let s = p .before .before .before .before .before .before in
     answered-refused (matrixOf (s .args .shape) (s .args .list .now)) (choiceOf (s .args .setting)) (s .args .bytes .now) (p .samples .result) (s .args .word .now)
@@ -38,7 +38,7 @@ array-share-prefix-xs : tie.Need-array-share-prefix-xs
 array-share-prefix-xs c = search needs
 
 slice-aggregate-iterative-accepted : tie.Need-slice-aggregate-iterative-accepted
-slice-aggregate-iterative-accepted c = 
+slice-aggregate-iterative-accepted c =
     let p = c .before .before .before in
     let s = p .before .before .before .before .before .before in
     let n = s .args .shape .n in
@@ -48,7 +48,7 @@ slice-aggregate-iterative-accepted-2 : tie.Need-slice-aggregate-iterative-accept
 slice-aggregate-iterative-accepted-2 c = search needs
 
 iterative-accepted-requires : tie.Need-iterative-accepted-requires
-iterative-accepted-requires c κs = 
+iterative-accepted-requires c κs =
     let e = c .before .before .before in
     let p = e .before .before in
     let s = p .before .before .before .before .before .before in
@@ -61,14 +61,14 @@ iterative-accepted-requires c κs =
       samples = ap length w ∙ samples-n n bs (s .pre .bytes);
       finite = ap firstNotFinite w ∙ all-finite n bs (s .pre .bytes) (p .samples .result) (p .samples .ensures .place) (e .if1 .left) ∙ sym (ap length w);
       room-word = s .pre .room;
-      room-levels = s .pre .decodable .matrix .sizes .n-most
+      room-levels = s .pre .decodable .matrix .sizes .n-most;
     }
 
 same-length : tie.Need-same-length
 same-length c = search needs
 
 returns-2 : tie.Need-returns-2
-returns-2 c = 
+returns-2 c =
     let d = c .before .before .before in
     let e = d .before .before .before .before in
     let p = e .before .before in

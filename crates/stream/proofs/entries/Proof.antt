@@ -28,7 +28,7 @@ mul-list : tie.Need-mul-list Inv-loop μ-loop
 mul-list c = omega arith
 
 slice-write-list : tie.Need-slice-write-list Inv-loop μ-loop
-slice-write-list c = 
+slice-write-list c =
     let l = c .before .before in
     let s = l .before .before .before in
     omega (arith, over-long (l .loop .i) (entryIn (s .args .bytes .now)) (s .args .list .now) (l .loop .list) (l .loop .inv .1) (omega arith))
@@ -41,21 +41,21 @@ loop-less c = omega arith
 
 loop-again : tie.Need-loop-again Inv-loop μ-loop
 unfolding entryIn
-loop-again c = 
+loop-again c =
     let l = c .before .before in
     let s = l .before .before .before in
     let room : l .loop .i < length (s .args .list .now) = omega arith in
     (omega arith, over-step (l .loop .i) (entryIn (s .args .bytes .now)) (s .args .list .now) (l .loop .list) (l .loop .inv .1) (c .number16 .result) room (c .number16 .ensures))
 
 same-length : tie.Need-same-length Inv-loop μ-loop
-same-length c = 
+same-length c =
     let l = c .before in
     let s = l .before .before .before in
     over-long (l .loop .i) (entryIn (s .args .bytes .now)) (s .args .list .now) (l .loop .list) (l .loop .inv .1) (omega arith)
 
 returns : tie.Need-returns Inv-loop μ-loop
 unfolding entriesIn
-returns c = 
+returns c =
     let l = c .before in
     let s = l .before .before .before in
     let all : l .loop .i ≡ length (s .args .bytes .now) / 2 = omega arith in

@@ -22,7 +22,7 @@ mul-size : tie.Need-mul-size Inv-loop μ-loop
 mul-size c = omega (arith, c .before .before .before .before .pre .decodable .matrix .sizes .n-most)
 
 loop-holds : tie.Need-loop-holds Inv-loop μ-loop
-loop-holds c = 
+loop-holds c =
     let s = c .before .before .before .before in
     lined-none (matrixOf (s .args .shape) (s .args .list .now)) (choiceOf (s .args .setting)) (s .args .number) (s .args .bytes .now) (s .args .at) (s .args .out .now)
 
@@ -33,7 +33,7 @@ add-to : tie.Need-add-to Inv-loop μ-loop
 add-to c = omega (arith, c .before .loop .inv .inside)
 
 add-block : tie.Need-add-block Inv-loop μ-loop
-add-block c = 
+add-block c =
     let l = c .before in
     let s = l .before .before .before .before .before in
     let H = matrixOf (s .args .shape) (s .args .list .now) in
@@ -50,7 +50,7 @@ part-block-end : tie.Need-part-block-end Inv-loop μ-loop
 part-block-end c = omega (arith, c .before .loop .inv .inside)
 
 block-requires : tie.Need-block-requires Inv-loop μ-loop
-block-requires c κs = 
+block-requires c κs =
     let l = c .before .before .before in
     let s = l .before .before .before .before .before in
     let H = matrixOf (s .args .shape) (s .args .list .now) in
@@ -58,7 +58,7 @@ block-requires c κs =
     lined-asks H S (s .args .number) (s .args .bytes .now) (s .args .at) (s .args .out .now) (s .pre) (l .loop .inv) (c .before .before .loop-test .taken)
 
 add-k : tie.Need-add-k Inv-loop μ-loop
-add-k c = 
+add-k c =
     let l = c .before .before .before .before .before .before in
     let s = l .before .before .before .before .before in
     let H = matrixOf (s .args .shape) (s .args .list .now) in
@@ -66,12 +66,12 @@ add-k c =
     omega (arith, s .pre .numbers, counted H S (s .args .number) (s .args .bytes .now) (s .args .at) (s .args .out .now) (s .pre) (l .loop .inv) (c .before .before .before .before .before .loop-test .taken))
 
 loop-less : tie.Need-loop-less Inv-loop μ-loop
-loop-less c = 
+loop-less c =
     let l = c .before .before .before .before .before .before in
     omega (arith, l .loop .inv .inside, l .before .before .before .before .before .pre .decodable .matrix .sizes .n-least, c .before .before .before .before .before .loop-test .taken)
 
 loop-again : tie.Need-loop-again Inv-loop μ-loop
-loop-again c = 
+loop-again c =
     let l = c .before .before .before .before .before .before in
     let s = l .before .before .before .before .before in
     let H = matrixOf (s .args .shape) (s .args .list .now) in
@@ -82,7 +82,7 @@ same-length : tie.Need-same-length Inv-loop μ-loop
 same-length c = put-length (c .before .loop .inv .put .put)
 
 returns : tie.Need-returns Inv-loop μ-loop
-returns c = 
+returns c =
     let l = c .before in
     let s = l .before .before .before .before .before in
     let H = matrixOf (s .args .shape) (s .args .list .now) in

@@ -18,7 +18,7 @@ same-length : tie.Need-same-length
 same-length c = search needs
 
 returns : tie.Need-returns
-returns c = 
+returns c =
     let s = c .before .before .before .before .before in
     omega (arith, c .before .before .read-full .ensures .0, c .before .before .read-full .kept, length-take (s .args .want) (s .args .input .now))
 

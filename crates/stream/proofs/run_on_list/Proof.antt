@@ -30,7 +30,7 @@ enum-known-opened : tie.Need-enum-known-opened
 enum-known-opened c = search needs
 
 blocks-requires : tie.Need-blocks-requires
-blocks-requires c κs = 
+blocks-requires c κs =
     let o = c .before .before in
     let b = o .before .before in
     let r = b .before .before .before .before in

@@ -16,7 +16,7 @@ cast-count-2 : tie.Need-cast-count-2
 cast-count-2 c = search needs
 
 mul-count : tie.Need-mul-count
-mul-count c = 
+mul-count c =
     let s = c .before .before .before in
     omega (arith, few (matrixOf (s .args .shape) []) (s .pre .0))
 
@@ -24,7 +24,7 @@ slice-aggregate-read-list : tie.Need-slice-aggregate-read-list
 slice-aggregate-read-list c = search needs
 
 read-list-requires : tie.Need-read-list-requires
-read-list-requires c κs = 
+read-list-requires c κs =
     let s = c .before .before .before .before in
     let h = few (matrixOf (s .args .shape) []) (s .pre .0) in
     (h, omega (arith, h, length-replicate {A = ℕ} 32736 0))
@@ -39,12 +39,12 @@ returns : tie.Need-returns
 returns c = search needs
 
 array-share-prefix-list : tie.Need-array-share-prefix-list
-array-share-prefix-list c = 
+array-share-prefix-list c =
     let s = c .before .before .before .before .before .before .before in
     omega (arith, few (matrixOf (s .args .shape) []) (s .pre .0), length-replicate {A = ℕ} 32736 0)
 
 slice-aggregate-run-on-list : tie.Need-slice-aggregate-run-on-list
-slice-aggregate-run-on-list c = 
+slice-aggregate-run-on-list c =
     let s = c .before .before .before .before .before .before .before .before in
     simp length-take (omega (arith, few (matrixOf (s .args .shape) []) (s .pre .0), length-replicate {A = ℕ} 32736 0))
 

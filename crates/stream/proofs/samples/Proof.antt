@@ -36,13 +36,13 @@ finite-pattern-requires : tie.Need-finite-pattern-requires Inv-loop μ-loop
 finite-pattern-requires c κs = tt
 
 same-length : tie.Need-same-length Inv-loop μ-loop
-same-length c = 
+same-length c =
     let l = c .before .before .before .before in
     let s = l .before .before .before in
     over-long (l .loop .i) (sampleIn (s .args .bytes .now)) (s .args .xs .now) (l .loop .xs) (l .loop .inv .2) (omega arith)
 
 returns : tie.Need-returns Inv-loop μ-loop
-returns c = 
+returns c =
     let l = c .before .before .before .before in
     let bs = l .before .before .before .args .bytes .now in
     let t = notFinite (samplesIn bs) in
@@ -51,7 +51,7 @@ returns c =
     not-finite-at bs (l .loop .i) (c .before .before .number32 .result) h (c .before .before .number32 .ensures) ∙ sym (ap not (c .before .finite-pattern .ensures)) ∙ c .if1 .taken in
     record {
       place = sym (first-at t (length (samplesIn bs)) (l .loop .i) (omega (arith, length-samples bs)) (any-clear t (l .loop .i) (l .loop .inv .1)) off);
-      cells = l .loop .inv .2
+      cells = l .loop .inv .2;
     }
 
 float-from-bits-xs : tie.Need-float-from-bits-xs Inv-loop μ-loop
@@ -61,7 +61,7 @@ mul-xs : tie.Need-mul-xs Inv-loop μ-loop
 mul-xs c = omega arith
 
 slice-write-xs : tie.Need-slice-write-xs Inv-loop μ-loop
-slice-write-xs c = 
+slice-write-xs c =
     let l = c .before .before .before .before in
     let s = l .before .before .before in
     omega (arith, over-long (l .loop .i) (sampleIn (s .args .bytes .now)) (s .args .xs .now) (l .loop .xs) (l .loop .inv .2) (omega arith))
@@ -73,7 +73,7 @@ loop-less : tie.Need-loop-less Inv-loop μ-loop
 loop-less c = omega arith
 
 loop-again : tie.Need-loop-again Inv-loop μ-loop
-loop-again c = 
+loop-again c =
     let l = c .before .before .before .before in
     let s = l .before .before .before in
     let bs = s .args .bytes .now in
@@ -82,28 +82,27 @@ loop-again c =
     let e = c .before .before .number32 .ensures in
     let h : l .loop .i < length bs / 4 = c .before .before .before .loop-test .taken in
     let room : l .loop .i < length (s .args .xs .now) = omega arith in
-    let on : t (l .loop .i) ≡ false = not-finite-at bs (l .loop .i) p h e ∙ sym (ap not (c .before .finite-pattern .ensures)) ∙ c .if1 .left in
-    (
+    let on : t (l .loop .i) ≡ false = not-finite-at bs (l .loop .i) p h e ∙ sym (ap not (c .before .finite-pattern .ensures)) ∙ c .if1 .left in (
       omega arith,
       any-step t (l .loop .i) ∙ ap₂ _||_ (l .loop .inv .1) on,
       over-step (l .loop .i) (sampleIn bs) (s .args .xs .now) (l .loop .xs) (l .loop .inv .2) (ofBits binary32 p) room (sample-of bs (l .loop .i) p e),
     )
 
 same-length-2 : tie.Need-same-length-2 Inv-loop μ-loop
-same-length-2 c = 
+same-length-2 c =
     let l = c .before in
     let s = l .before .before .before in
     over-long (l .loop .i) (sampleIn (s .args .bytes .now)) (s .args .xs .now) (l .loop .xs) (l .loop .inv .2) (omega arith)
 
 returns-2 : tie.Need-returns-2 Inv-loop μ-loop
-returns-2 c = 
+returns-2 c =
     let l = c .before in
     let bs = l .before .before .before .args .bytes .now in
     let t = notFinite (samplesIn bs) in
     let all : l .loop .i ≡ length (samplesIn bs) = omega (arith, length-samples bs) in
     record {
       place = all ∙ sym (first-none t (length (samplesIn bs)) (λ j h. any-clear t (l .loop .i) (l .loop .inv .1) j (omega arith)));
-      cells = l .loop .inv .2
+      cells = l .loop .inv .2;
     }
 
 pub samples-spec : {M : Type 1} → statement M

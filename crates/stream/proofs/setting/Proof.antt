@@ -23,7 +23,7 @@ number32-requires c κs = search needs
 
 returns : tie.Need-returns
 unfolding choiceIn
-returns c = 
+returns c =
     let bs = c .before .before .before .before .args .bytes .now in
     begins-refused (choiceIn bs) (kind-unfit (choiceIn bs) (c .if1 .taken))
 
@@ -32,7 +32,7 @@ finite-pattern-requires c κs = search needs
 
 returns-2 : tie.Need-returns-2
 unfolding choiceIn float
-returns-2 c = 
+returns-2 c =
     let n = c .before .before .before in
     let bs = n .before .before .before .args .bytes .now in
     let off : finite (float bs 3) ≡ false =
@@ -52,7 +52,7 @@ wide-requires-2 : tie.Need-wide-requires-2
 wide-requires-2 c κs = search needs
 
 float-from-bits-step-by : tie.Need-float-from-bits-step-by
-float-from-bits-step-by c = 
+float-from-bits-step-by c =
     let d = c .before .before .before .before in
     no-nan (d .before .before .before .number32 .result) (sym (d .before .finite-pattern .ensures) ∙ not-false _ (d .if2 .left))
 
@@ -64,7 +64,7 @@ setting-fits-requires c κs = search needs
 
 returns-3 : tie.Need-returns-3
 unfolding float
-returns-3 c = 
+returns-3 c =
     let f = c .before in
     let n = f .before .before .before .before .before .before .before .before .before in
     let bs = n .before .before .before .args .bytes .now in
@@ -75,7 +75,7 @@ returns-3 c =
 
 returns-4 : tie.Need-returns-4
 unfolding float
-returns-4 c = 
+returns-4 c =
     let f = c .before in
     let n = f .before .before .before .before .before .before .before .before .before in
     let bs = n .before .before .before .args .bytes .now in

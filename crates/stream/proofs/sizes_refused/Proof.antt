@@ -31,13 +31,13 @@ number-requires : tie.Need-number-requires
 number-requires c κs = search needs
 
 returns : tie.Need-returns
-returns c = 
+returns c =
     let k = c .before .before in
     let H = matrixOf (k .before .before .args .shape) [] in
     ap (λ (a : Checked). eqb (numberIn (verdictOf a)) 1) (sym (c .enum-told .given .1)) ∙ ap (λ (v : Verdict). eqb (numberIn v) 1) (k .check .ensures) ∙ sizes-alone H refl
 
 returns-2 : tie.Need-returns-2
-returns-2 c = 
+returns-2 c =
     let k = c .before .before .before .before in
     let H = matrixOf (k .before .before .args .shape) [] in
     ap (λ (x : ℕ). eqb x 1) (c .number .ensures)

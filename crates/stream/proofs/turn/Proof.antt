@@ -31,14 +31,14 @@ slice-aggregate-chunk : tie.Need-slice-aggregate-chunk
 slice-aggregate-chunk c = simp length-take (omega arith)
 
 chunk-requires : tie.Need-chunk-requires
-chunk-requires c κs = 
+chunk-requires c κs =
     let r = c .before .before .before .before in
     let o = r .before .before in
     let s = o .before .before .before .before .before in
     countable (matrixOf (s .args .shape) (s .args .list .now)) (choiceOf (s .args .setting)) (s .pre .0) (o .at-once .ensures) (simp length-take (omega arith)) (s .pre .3)
 
 print-requires : tie.Need-print-requires
-print-requires c κs = 
+print-requires c κs =
     let k = c .before .before .before in
     let r = k .before .before .before .before .before in
     let o = r .before .before in

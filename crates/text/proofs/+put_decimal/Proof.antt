@@ -33,7 +33,7 @@ put-decimal-put-last-requires : (t : ℕ) → put-decimal-lts.Need-put-last-requ
   put-decimal-below t,
   put-decimal.Post,
 ) (put-decimal-at t) put-decimal.Post
-put-decimal-put-last-requires t c κs = 
+put-decimal-put-last-requires t c κs =
     let s = c .before .before .before in
     omega (arith, s .pre .1, ap length (decimal-one (s .args .x) (c .before .if1 .taken)))
 
@@ -51,7 +51,7 @@ put-decimal-returns : (t : ℕ) → put-decimal-lts.Need-returns (
   put-decimal-below t,
   put-decimal.Post,
 ) (put-decimal-at t) put-decimal.Post
-put-decimal-returns t c = 
+put-decimal-returns t c =
     let s = c .before .before .before .before .before .before in
     let h : s .args .x < 10 = c .before .before .before .before .if1 .taken in
     let e : s .args .x % 10 ≡ s .args .x = omega arith in
@@ -63,7 +63,7 @@ put-decimal-put-decimal-requires : (t : ℕ) → put-decimal-lts.Need-put-decima
   put-decimal-below t,
   put-decimal.Post,
 ) (put-decimal-at t) put-decimal.Post
-put-decimal-put-decimal-requires t c κs = 
+put-decimal-put-decimal-requires t c κs =
     let s = c .before .before .before in
     let h : 10 ≤ s .args .x = c .before .if1 .left in
     (omega (arith, s .pre .0), omega (arith, s .pre .1, length-decimal-more (s .args .x) h))
@@ -74,7 +74,7 @@ put-decimal-put-last-requires-2 : (t : ℕ) → put-decimal-lts.Need-put-last-re
   put-decimal-below t,
   put-decimal.Post,
 ) (put-decimal-at t) put-decimal.Post
-put-decimal-put-last-requires-2 t c κs = 
+put-decimal-put-last-requires-2 t c κs =
     let p = c .before .before .before in
     let s = p .before .before .before .before in
     omega (arith, s .pre .1, p .put-decimal .ensures .ends, put-length (p .put-decimal .ensures), length-decimal-more (s .args .x) (p .before .before .if1 .left))
@@ -85,7 +85,7 @@ put-decimal-same-length-2 : (t : ℕ) → put-decimal-lts.Need-same-length-2 (
   put-decimal-below t,
   put-decimal.Post,
 ) (put-decimal-at t) put-decimal.Post
-put-decimal-same-length-2 t c = 
+put-decimal-same-length-2 t c =
     let l = c .before .before in
     put-length (l .put-last2 .ensures) ∙ put-length (l .before .before .before .before .put-decimal .ensures)
 
@@ -95,7 +95,7 @@ put-decimal-returns-2 : (t : ℕ) → put-decimal-lts.Need-returns-2 (
   put-decimal-below t,
   put-decimal.Post,
 ) (put-decimal-at t) put-decimal.Post
-put-decimal-returns-2 t c = 
+put-decimal-returns-2 t c =
     let l = c .before .before in
     let p = l .before .before .before .before in
     let s = p .before .before .before .before in

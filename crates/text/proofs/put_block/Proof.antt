@@ -30,14 +30,14 @@ same-length c = search needs
 
 returns : tie.Need-returns
 unfolding blockText saidText
-returns c = 
+returns c =
     let l = c .before .before in
     let p = l .before .before .before .before .before .before .before in
     let s = p .before .before .before .before in
     let e = ap (λ (a : Answer). blockText (s .args .number) (saidOf a) (s .args .word .now)) (sym (l .before .before .before .answer .given .1)) in
     record {
       put = put-as e (put-then (p .put-number .ensures .put) (l .put-report .ensures .put));
-      within = omega (arith, p .put-number .ensures .within, l .put-report .ensures .within)
+      within = omega (arith, p .put-number .ensures .within, l .put-report .ensures .within);
     }
 
 same-length-2 : tie.Need-same-length-2
@@ -45,14 +45,14 @@ same-length-2 c = search needs
 
 returns-2 : tie.Need-returns-2
 unfolding blockText saidText
-returns-2 c = 
+returns-2 c =
     let l = c .before .before in
     let p = l .before .before .before .before .before .before .before in
     let s = p .before .before .before .before in
     let e = ap (λ (a : Answer). blockText (s .args .number) (saidOf a) (s .args .word .now)) (sym (l .before .before .before .answer2 .given .1)) in
     record {
       put = put-as e (put-then (p .put-number .ensures .put) (l .put-refused .ensures .put));
-      within = omega (arith, p .put-number .ensures .within, l .put-refused .ensures .within)
+      within = omega (arith, p .put-number .ensures .within, l .put-refused .ensures .within);
     }
 
 pub put-block-spec : {M : Type 1} → statement M

@@ -28,7 +28,7 @@ shared-slice-read-put-pair : tie.Need-shared-slice-read-put-pair Inv-loop μ-loo
 shared-slice-read-put-pair c = search needs
 
 put-pair-requires : tie.Need-put-pair-requires Inv-loop μ-loop
-put-pair-requires c κs = 
+put-pair-requires c κs =
     let l = c .before .before .before in
     let word = l .before .before .before .args .word .now in
     let p = l .loop .inv .1 in
@@ -41,7 +41,7 @@ loop-less : tie.Need-loop-less Inv-loop μ-loop
 loop-less c = omega arith
 
 loop-again : tie.Need-loop-again Inv-loop μ-loop
-loop-again c = 
+loop-again c =
     let l = c .before .before .before .before .before .before in
     let word = l .before .before .before .args .word .now in
     let h : l .loop .i < length word = c .before .before .before .before .before .loop-test .taken in
@@ -51,7 +51,7 @@ same-length : tie.Need-same-length Inv-loop μ-loop
 same-length c = put-length (c .before .loop .inv .1)
 
 returns : tie.Need-returns Inv-loop μ-loop
-returns c = 
+returns c =
     let l = c .before in
     let word = l .before .before .before .args .word .now in
     put-as (ap hex (take-all (l .loop .i) word (omega arith))) (l .loop .inv .1)

@@ -7,12 +7,12 @@ use Rattle.text.proofs.put_number.Statement.{statement}
 use Rattle.text.proofs.put_number.Tie as tie
 
 put-decimal-requires : tie.Need-put-decimal-requires
-put-decimal-requires c κs = 
+put-decimal-requires c κs =
     let s = c .before .before in
     omega (arith, decimal-five (s .args .x) (s .fits .x .fits))
 
 put-byte-requires : tie.Need-put-byte-requires
-put-byte-requires c κs = 
+put-byte-requires c κs =
     let p = c .before .before .before in
     let s = p .before .before .before in
     omega (arith, p .put-decimal .ensures .ends, put-length (p .put-decimal .ensures), decimal-five (s .args .x) (s .fits .x .fits))
@@ -21,7 +21,7 @@ same-length : tie.Need-same-length
 same-length c = search needs
 
 returns : tie.Need-returns
-returns c = 
+returns c =
     let l = c .before .before in
     let s = l .before .before .before .before .before .before .before in
     let p = put-then (l .before .before .before .before .put-decimal .ensures) (l .put-byte .ensures) in

@@ -41,7 +41,7 @@ same-length : tie.Need-same-length
 same-length c = search needs
 
 returns : tie.Need-returns
-returns c = 
+returns c =
     let e = ap (λ (o : Outcome). outcomeText (outcomeOf o) ++ ascii " ") (sym (c .before .before .before .before .before .enum-told .given .1)) in
     record { put = put-as e (c .before .before .put-text .ensures); within = omega (arith, c .before .before .put-text .ensures .ends) }
 
@@ -49,7 +49,7 @@ same-length-2 : tie.Need-same-length-2
 same-length-2 c = search needs
 
 returns-2 : tie.Need-returns-2
-returns-2 c = 
+returns-2 c =
     let e = ap (λ (o : Outcome). outcomeText (outcomeOf o) ++ ascii " ") (sym (c .before .before .before .before .before .enum-told2 .given .1)) in
     record { put = put-as e (c .before .before .put-text2 .ensures); within = omega (arith, c .before .before .put-text2 .ensures .ends) }
 
@@ -57,7 +57,7 @@ same-length-3 : tie.Need-same-length-3
 same-length-3 c = search needs
 
 returns-3 : tie.Need-returns-3
-returns-3 c = 
+returns-3 c =
     let e = ap (λ (o : Outcome). outcomeText (outcomeOf o) ++ ascii " ") (sym (c .before .before .before .before .before .enum-told3 .given .1)) in
     record { put = put-as e (c .before .before .put-text3 .ensures); within = omega (arith, c .before .before .put-text3 .ensures .ends) }
 

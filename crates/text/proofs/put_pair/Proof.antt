@@ -25,7 +25,7 @@ same-length c = search needs
 
 returns : tie.Need-returns
 unfolding hex
-returns c = 
+returns c =
     let second = c .before .before in
     let first = second .before .before .before .before .before in
     put-as (ap₂ (λ (a b : ℕ). a ∷ b ∷ []) (first .before .digit .ensures) (second .before .digit2 .ensures))

@@ -31,14 +31,14 @@ same-length c = search needs
 
 returns : tie.Need-returns
 unfolding refusedText line
-returns c = 
+returns c =
     let l = c .before .before in
     let p = l .before .before .before .before .before in
     let t = p .before .before .before .before .before in
     record {
       put = put-as (ap₂ refusedText (p .before .number .ensures) (l .before .place .ensures))
           (put-then (t .put-text .ensures) (put-then (p .put-number .ensures .put) (l .put-number2 .ensures .put)));
-      within = omega (arith, t .put-text .ensures .ends, p .put-number .ensures .within, l .put-number2 .ensures .within)
+      within = omega (arith, t .put-text .ensures .ends, p .put-number .ensures .within, l .put-number2 .ensures .within);
     }
 
 pub put-refused-spec : {M : Type 1} → statement M

@@ -28,7 +28,7 @@ same-length c = search needs
 
 returns : tie.Need-returns
 unfolding saidText line
-returns c = 
+returns c =
     let w = c .before .before in
     let n3 = w .before .before .before .before in
     let n2 = n3 .before .before .before .before in
@@ -46,7 +46,7 @@ returns c =
         n2 .put-number2 .ensures .within,
         n3 .put-number3 .ensures .within,
         w .put-word .ensures .within,
-      )
+      );
     }
 
 pub put-report-spec : {M : Type 1} → statement M

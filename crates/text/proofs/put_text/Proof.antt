@@ -25,7 +25,7 @@ shared-slice-read-put-byte : tie.Need-shared-slice-read-put-byte Inv-loop μ-loo
 shared-slice-read-put-byte c = search needs
 
 put-byte-requires : tie.Need-put-byte-requires Inv-loop μ-loop
-put-byte-requires c κs = 
+put-byte-requires c κs =
     let l = c .before .before .before in
     let p = l .loop .inv .1 in
     omega (arith, p .ends, put-length p, length-take-le (l .loop .i) (l .before .before .before .args .text .now) (l .loop .inv .0))
@@ -37,7 +37,7 @@ loop-less : tie.Need-loop-less Inv-loop μ-loop
 loop-less c = omega arith
 
 loop-again : tie.Need-loop-again Inv-loop μ-loop
-loop-again c = 
+loop-again c =
     let l = c .before .before .before .before .before .before in
     let text = l .before .before .before .args .text .now in
     let h : l .loop .i < length text = c .before .before .before .before .before .loop-test .taken in
@@ -47,7 +47,7 @@ same-length : tie.Need-same-length Inv-loop μ-loop
 same-length c = put-length (c .before .loop .inv .1)
 
 returns : tie.Need-returns Inv-loop μ-loop
-returns c = 
+returns c =
     let l = c .before in
     let text = l .before .before .before .args .text .now in
     put-as (take-all (l .loop .i) text (omega arith)) (l .loop .inv .1)

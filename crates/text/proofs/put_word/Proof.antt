@@ -10,7 +10,7 @@ put-hex-requires : tie.Need-put-hex-requires
 put-hex-requires c κs = omega (arith, length-hex (c .before .before .before .args .word .now))
 
 put-byte-requires : tie.Need-put-byte-requires
-put-byte-requires c κs = 
+put-byte-requires c κs =
     let p = c .before .before .before in
     omega (arith, p .put-hex .ensures .ends, length-hex (p .before .before .before .before .args .word .now))
 
@@ -18,12 +18,12 @@ same-length : tie.Need-same-length
 same-length c = search needs
 
 returns : tie.Need-returns
-returns c = 
+returns c =
     let l = c .before .before in
     let h = l .before .before .before .before in
     record {
       put = put-then (h .put-hex .ensures) (l .put-byte .ensures);
-      within = omega (arith, h .put-hex .ensures .ends, l .put-byte .ensures .ends, length-hex (h .before .before .before .before .args .word .now))
+      within = omega (arith, h .put-hex .ensures .ends, l .put-byte .ensures .ends, length-hex (h .before .before .before .before .args .word .now));
     }
 
 pub put-word-spec : {M : Type 1} → statement M

@@ -1,0 +1,102 @@
+-- Sessions across the exported functions: room for the answer, the setting's stand-in, and the cells of a record. Assumes nothing.
+use mathlib.Core.Path.{_≡_, refl, sym, ap, ap₂, subst, _∙_}
+use mathlib.Core.Bool.{Bool, true, false}
+use mathlib.Core.List.{List}
+use Prim.Native.Nat.{ℕ, suc, _≤_, _<_}
+use native.Mathlib.Omega.{arith}
+use lib.Dec.{eqb}
+use lib.IntN.{ℤ}
+use lib.Ieee.{Float}
+use lib.ListN.{length}
+use borrow.Author.Tests.{eq-eqb, ne-eqb}
+use Rattle.counting.proofs.Searches.{cases}
+use Rattle.answers.specs.Paper.{Verdict, accepted, refused, Said, refusal, report, andThen}
+use Rattle.answers.specs.Answers.{saidOf}
+use Rattle.answers.specs.declared.Answer.{Answer}
+use Rattle.packed_word.specs.Packed.{bitAt}
+use Rattle.packed_word.proofs.Distances.{distance-le}
+use Rattle.parity_check.specs.Code.{Matrix, failing}
+use Rattle.parity_check.specs.Check.{checkOf}
+use Rattle.parity_check.specs.Reading.{Accepted}
+use Rattle.quantiser.specs.Samples.{Choice, settingFits, largest, hardBit}
+use Rattle.iterative.specs.Iterative.{startOf, changedBits, iterativeVerdict}
+use Rattle.session.specs.Record.{Record, stateAfter, outcomeIn}
+use Rattle.session.specs.Steps.{Held, Left, saysAt, openVerdict, openOf, stepVerdict, stepOf}
+use Rattle.session.specs.Reading.{Openable, Steppable, Usable}
+use Rattle.session.specs.Sessions.{recordOf, openedLeft, steppedLeft, steppedState, Leaves}
+use Rattle.session.specs.declared.Session.{Session}
+use Rattle.session.proofs.Asking.{accepted-open, accepted-step}
+use Rattle.session.proofs.Calls.{refused-open-keeps, refused-step-keeps, accepted-opens, accepted-steps}
+use Rattle.ffi.specs.Codes.{codeOf, Small, Room}
+use Rattle.ffi.specs.Records.{recordIn, cellsOf, leftBy, onRecord, writtenBy, CalledAs}
+use Rattle.ffi.specs.Settings.{StandsFor}
+use Rattle.ffi.proofs.Bounds.{failing-le}
+use Rattle.ffi.proofs.StandIns.{unfit-verdict}
+
+-- a verdict accepts or refuses
+verdict-cases {ℓ} : {A : Type ℓ} (v : Verdict) → (v ≡ accepted → A) → ((k x : ℕ) → v ≡ refused k x → A) → A
+verdict-cases accepted f g = f refl
+verdict-cases (refused k x) f g = g k x refl
+
+-- the answer of an accepted call
+says-small : (H : Matrix) → Accepted H → (limit k : ℕ) (r z : ℕ → ℕ) → k < 256 → Small (saysAt H limit k r z)
+unfolding changedBits
+says-small H a limit k r z h =
+    record {
+      rounds = h;
+      failing = omega (arith, failing-le H z, a .sizes .m-most);
+      changed = omega (arith, distance-le (H .n) z r, a .sizes .n-most);
+    }
+
+pub open-small : (H : Matrix) (S : Choice) (xs : List Float) (h : Held) → Small (openOf H S xs h .said)
+open-small H S xs h =
+    verdict-cases (openVerdict H S xs h)
+    (λ e. subst (λ (l : Left). Small (l .said)) (sym (accepted-opens H S xs h e)) (says-small H (accepted-open H S xs h e .matrix) (S .limit) 0 (hardBit xs) (startOf S xs .z) (omega arith)))
+    (λ k x e. subst (λ (l : Left). Small (l .said)) (sym (refused-open-keeps H S xs h k x e)) tt)
+
+pub step-small : (H : Matrix) (w : List ℕ) (h : Held) → Small (stepOf H w h .said)
+step-small H w h =
+    verdict-cases (stepVerdict H w h)
+    (λ e. subst (λ (l : Left). Small (l .said)) (sym (accepted-steps H w h e))
+    (let p = accepted-step H w h e in
+    says-small H (p .matrix) (h .rec .limit) (suc (h .rec .k)) (bitAt w) (steppedState H h .z) (omega (arith, p .usable .limit, p .usable .left))))
+    (λ k x e. subst (λ (l : Left). Small (l .said)) (sym (refused-step-keeps H w h k x e)) tt)
+
+-- a refusal by 6 is a refusal
+six : (v : Verdict) → (k : ℕ) × (x : ℕ) × (andThen v (refused 6 0) ≡ refused k x)
+six accepted = (6, 0, refl)
+six (refused k x) = (k, x, refl)
+
+-- a setting that stands for another opens alike
+pub open-alike : (H : Matrix) (S T : Choice) → StandsFor S T → (xs : List Float) (h : Held) → openOf H T xs h ≡ openOf H S xs h
+unfolding openVerdict
+open-alike H S T st xs h =
+    cases (settingFits S) (λ y. ap (λ (X : Choice). openOf H X xs h) (st .same y))
+    (λ n.
+    let f = six (checkOf H) in
+    let vT = unfit-verdict H T xs (length (h .word)) (length (h .levels)) (st .fits ∙ n) ∙ f .2 in
+    let vS = unfit-verdict H S xs (length (h .word)) (length (h .levels)) n ∙ f .2 in
+    refused-open-keeps H T xs h (f .0) (f .1) vT ∙ sym (refused-open-keeps H S xs h (f .0) (f .1) vS))
+
+-- what is left, by what a turn says and leaves
+pub called : (l : Left) (a : Answer) (s : Session) (r : ℕ) (cells cells′ word′ : List ℕ) (levels′ : List ℤ) → Leaves l a s word′ levels′
+    → r ≡ codeOf (saidOf a) → cells′ ≡ writtenBy (saidOf a) (cellsOf (recordOf s)) cells → CalledAs l r cells cells′ word′ levels′
+called l a s r cells cells′ word′ levels′ v e c =
+    record {
+      answer = e ∙ ap codeOf (v .says);
+      rec = c ∙ ap₂ (λ (x : Said) (y : Record). writtenBy x (cellsOf y) cells) (v .says) (v .rec);
+      word = v .word;
+      levels = v .levels;
+    }
+
+-- eight cells are a record
+pub on-eight : (l : Left) (h : Held) (r : ℕ) (cells cells′ word′ : List ℕ) (levels′ : List ℤ) → length cells ≡ 8 → CalledAs l r cells cells′ word′ levels′
+    → CalledAs (onRecord cells l h) r cells cells′ word′ levels′
+on-eight l h r cells cells′ word′ levels′ e c =
+    subst (λ (b : Bool). CalledAs (leftBy b l h) r cells cells′ word′ levels′) (sym (eq-eqb (length cells) 8 e)) c
+
+-- any other number of cells is refused as 7
+pub not-eight : (l : Left) (h : Held) (cells : List ℕ) → (length cells ≡ 8 → ⊥) → CalledAs (onRecord cells l h) 458752 cells cells (h .word) (h .levels)
+not-eight l h cells ne =
+    subst (λ (b : Bool). CalledAs (leftBy b l h) 458752 cells cells (h .word) (h .levels)) (sym (ne-eqb (length cells) 8 ne))
+    (record { answer = refl; rec = refl; word = refl; levels = refl })

@@ -1,0 +1,127 @@
+-- One call: what a refused one and an accepted one leave, what the state then says, and that a session ends within its round limit.
+-- Assumes nothing.
+use mathlib.Core.Path.{_≡_, refl, ap, _∙_}
+use mathlib.Core.List.{List}
+use Prim.Native.Nat.{ℕ, suc, _≤_, _<_}
+use native.Mathlib.Omega.{arith}
+use borrow.Author.Tests.{eqb-true, eqb-false}
+use lib.Dec.{eqb}
+use lib.Ieee.{Float}
+use Rattle.counting.proofs.Searches.{cases}
+use Rattle.answers.specs.Paper.{accepted, refused, refusal}
+use Rattle.packed_word.specs.Packed.{bitAt}
+use Rattle.parity_check.specs.Code.{Matrix, failing}
+use Rattle.parity_check.specs.Reading.{Rows}
+use Rattle.parity_check.proofs.Rows.{failing-cong}
+use Rattle.quantiser.specs.Samples.{Choice, largest}
+use Rattle.quantiser.proofs.Ranges.{hard-bit-at}
+use Rattle.iterative.specs.Rounds.{State, levelAfter, roundOf}
+use Rattle.iterative.specs.Iterative.{startOf}
+use Rattle.soft_levels.proofs.Levels.{above-bit}
+use Rattle.session.specs.Record.{Record, working, decoded, failed, stateAfter}
+use Rattle.session.specs.Steps.{Held, heldAt, heldState, openVerdict, openOf, stepVerdict, stepOf}
+use Rattle.session.specs.Reading.{Steppable}
+use Rattle.session.specs.Stepping.{Means, lent, Ran, opened, stepped, step-refused, open-refused, Within}
+use Rattle.session.specs.Sessions.{openedLeft, steppedState, steppedLeft}
+use Rattle.session.proofs.Asking.{accepted-open, accepted-step}
+use Rattle.session.proofs.Buffers.{bits-back}
+
+-- ---- what a call leaves
+
+-- a refused call leaves everything, and says its refusal
+pub refused-open-keeps : (H : Matrix) (S : Choice) (xs : List Float) (h : Held) (k x : ℕ) → openVerdict H S xs h ≡ refused k x
+    → openOf H S xs h ≡ record { said = refusal k x; held = h }
+unfolding openOf
+refused-open-keeps H S xs h k x e = rw e
+
+pub refused-step-keeps : (H : Matrix) (w : List ℕ) (h : Held) (k x : ℕ) → stepVerdict H w h ≡ refused k x → stepOf H w h ≡ record { said = refusal k x; held = h }
+unfolding stepOf
+refused-step-keeps H w h k x e = rw e
+
+-- what an accepted one leaves
+pub accepted-opens : (H : Matrix) (S : Choice) (xs : List Float) (h : Held) → openVerdict H S xs h ≡ accepted → openOf H S xs h ≡ openedLeft H S xs h
+unfolding openOf
+accepted-opens H S xs h e = rw e
+
+pub accepted-steps : (H : Matrix) (w : List ℕ) (h : Held) → stepVerdict H w h ≡ accepted → stepOf H w h ≡ steppedLeft H w h
+unfolding stepOf
+accepted-steps H w h e = rw e
+
+-- ---- what the state says
+
+module _ (f k limit : ℕ) where
+  pub after-working : stateAfter f k limit ≡ working → (f ≡ 0 → ⊥) × (k ≡ limit → ⊥)
+  after-working e =
+      cases (eqb f 0) (λ y. absurd (let q : 2 ≡ working = rw y at e in omega arith))
+      (λ n. cases (eqb k limit) (λ y. absurd (let q : 3 ≡ working = rw (n, y) at e in omega arith)) (λ m. (eqb-false f 0 n, eqb-false k limit m)))
+
+  after-decoded : stateAfter f k limit ≡ decoded → f ≡ 0
+  after-decoded e =
+      cases (eqb f 0) (λ y. eqb-true f 0 y)
+      (λ n. cases (eqb k limit) (λ y. absurd (let q : 3 ≡ decoded = rw (n, y) at e in omega arith)) (λ m. absurd (let q : 1 ≡ decoded = rw (n, m) at e in omega arith)))
+
+  after-failed : stateAfter f k limit ≡ failed → (k ≡ limit) × (f ≡ 0 → ⊥)
+  after-failed e =
+      cases (eqb f 0) (λ y. absurd (let q : 2 ≡ failed = rw y at e in omega arith))
+      (λ n. cases (eqb k limit) (λ y. (eqb-true k limit y, eqb-false f 0 n)) (λ m. absurd (let q : 1 ≡ failed = rw (n, m) at e in omega arith)))
+
+-- the bits of the states that calls write
+pub start-bits : (S : Choice) (xs : List Float) (j : ℕ) → startOf S xs .z j < 2
+unfolding startOf
+start-bits S xs j = hard-bit-at xs j
+
+pub round-bits : (H : Matrix) (L : ℕ) (s : State) (j : ℕ) → roundOf H L s .z j < 2
+unfolding roundOf
+round-bits H L s j = above-bit (levelAfter H L s j)
+
+-- the state of the record is that of the word beside it
+held-means : (H : Matrix) → Rows H → (bits limit k : ℕ) (s : State) (h : Held) → ((j : ℕ) → s .z j < 2) → k ≤ limit
+    → Means H (heldAt H bits limit k s h .rec) (bitAt (heldAt H bits limit k s h .word))
+held-means H r bits limit k s h b l =
+    let f : failing H (bitAt (heldAt H bits limit k s h .word)) ≡ failing H (s .z) =
+    failing-cong H r (bitAt (heldAt H bits limit k s h .word)) (s .z) (bits-back (H .n) (s .z) (λ j m. b j) (h .word)) in
+    record {
+      if-working = λ e. let p = after-working (failing H (s .z)) k limit e in (omega (arith, p .1), omega (arith, p .0));
+      if-decoded = λ e. f ∙ after-decoded (failing H (s .z)) k limit e;
+      if-failed = λ e. let p = after-failed (failing H (s .z)) k limit e in (p .0, omega (arith, p .1));
+    }
+
+pub open-means : (H : Matrix) (S : Choice) (xs : List Float) (h : Held) → openVerdict H S xs h ≡ accepted
+    → Means H (openOf H S xs h .held .rec) (bitAt (openOf H S xs h .held .word))
+open-means H S xs h e =
+    rw (accepted-opens H S xs h e)
+    (held-means H (accepted-open H S xs h e .matrix .rows) (S .bits) (S .limit) 0 (startOf S xs) h (start-bits S xs) (omega arith))
+
+pub step-means : (H : Matrix) (w : List ℕ) (h : Held) → stepVerdict H w h ≡ accepted → Means H (stepOf H w h .held .rec) (bitAt (stepOf H w h .held .word))
+step-means H w h e =
+    let s : Steppable H w h = accepted-step H w h e in
+    rw (accepted-steps H w h e)
+    (held-means H (s .matrix .rows) (h .rec .bits) (h .rec .limit) (suc (h .rec .k)) (steppedState H h) h
+    (round-bits H (largest (h .rec .bits)) (heldState h)) (omega (arith, s .usable .left)))
+
+-- ---- a session ends
+
+-- a record in whose state it says that k is below the limit
+within-limit : {limit t : ℕ} (r : Record) → r .limit ≡ limit → r .k ≡ t → t ≤ limit → (r .state ≡ working → t < limit) → Within limit r t
+within-limit r l k m w =
+    record {
+      same-limit = l;
+      counts = k;
+      at-most = m;
+      if-working = w;
+      further = λ H w′ word levels e. w (accepted-step H w′ (lent r word levels) e .usable .works);
+    }
+
+pub ends-within : {limit : ℕ} {r : Record} {t : ℕ} → Ran limit r t → Within limit r t
+ends-within (opened H S xs h e q) =
+    rw (accepted-opens H S xs h e)
+    (within-limit (openedLeft H S xs h .held .rec) q refl (omega arith)
+    (λ w. let p = after-working (failing H (startOf S xs .z)) 0 (S .limit) w in omega (arith, p .1)))
+ends-within (stepped {r} {t} p H w word levels e) =
+    let s : Steppable H w (lent r word levels) = accepted-step H w (lent r word levels) e in
+    let i : Within _ r t = ends-within p in
+    rw (accepted-steps H w (lent r word levels) e)
+    (within-limit (steppedLeft H w (lent r word levels) .held .rec) (i .same-limit) (ap suc (i .counts)) (omega (arith, i .same-limit, i .counts, s .usable .left))
+    (λ v. let q = after-working (failing H (steppedState H (lent r word levels) .z)) (suc (r .k)) (r .limit) v in omega (arith, q .1, i .same-limit, i .counts, s .usable .left)))
+ends-within (step-refused {r} {t} p H w word levels k x e) = rw (refused-step-keeps H w (lent r word levels) k x e) (ends-within p)
+ends-within (open-refused {r} {t} p H S xs word levels k x e) = rw (refused-open-keeps H S xs (lent r word levels) k x e) (ends-within p)
