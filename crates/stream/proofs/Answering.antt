@@ -1,44 +1,28 @@
--- Laws of the samples of a block, and of what its answer says. Assumes nothing.
+-- Laws of the bytes of one block, and of what its answer says. Assumes nothing.
 use mathlib.Core.Path.{_≡_, sym, ap, _∙_}
-use mathlib.Core.Bool.{not}
 use mathlib.Core.List.{List}
 use Prim.Native.Nat.{ℕ, _*_, _/_, _≤_, _<_}
 use native.Mathlib.Omega.{arith}
-use borrow.Author.Tests.{lt-ltb, le-ltb}
+use borrow.Author.Tests.{lt-ltb, le-ltb, eq-eqb}
 use lib.IntN.{ℤ}
-use lib.Ieee.{Float, nan, binary32, ofBits}
-use lib.Ieee.Scale.{finite}
-use lib.ListN.{length, take, getD}
+use lib.Ieee.{Float}
+use lib.ListN.{length, take}
 use Rattle.counting.specs.Lists.{listed, over}
 use Rattle.counting.proofs.Searches.{first-le}
-use Rattle.counting.proofs.Writing.{length-listed, getD-listed, take-over}
+use Rattle.counting.proofs.Writing.{take-over}
 use Rattle.answers.specs.Paper.{accepted, refused, Said, refusal}
+use Rattle.packed_word.specs.Packed.{bytesFor}
 use Rattle.parity_check.specs.Code.{Matrix}
+use Rattle.parity_check.proofs.Reading.{is-accepted}
 use Rattle.quantiser.specs.Samples.{Choice, hardBit, notFinite, firstNotFinite}
-use Rattle.iterative.specs.Iterative.{endFrom, reportAt, iterativeWord}
+use Rattle.iterative.specs.Iterative.{endFrom, reportAt, iterativeVerdict, iterativeOf, iterativeWord}
 use Rattle.iterative.specs.Calls.{Decoded}
-use Rattle.stream.specs.Input.{number32, float, sampleIn, samplesIn}
-use Rattle.stream.specs.Reading.{Sampled, Answered}
+use Rattle.input.specs.Input.{sampleIn, samplesIn}
+use Rattle.input.specs.Opening.{Decodable}
+use Rattle.input.specs.Sampling.{Sampled}
+use Rattle.input.proofs.Sampling.{length-samples}
+use Rattle.stream.specs.Lending.{Answered}
 use Rattle.stream.specs.Program.{blockVerdict, blockSaid}
-
-module _ (bs : List ℕ) where
-  pub length-samples : length (samplesIn bs) ≡ length bs / 4
-  unfolding samplesIn
-  length-samples = length-listed (length bs / 4) (sampleIn bs)
-
-  -- a sample by its pattern
-  pub sample-of : (i p : ℕ) → p ≡ number32 bs (4 * i) → ofBits binary32 p ≡ sampleIn bs i
-  unfolding sampleIn float
-  sample-of i p e = ap (ofBits binary32) e
-
-  -- the test of refusal 8 at a sample
-  pub not-finite-at : (i p : ℕ) → i < length bs / 4 → p ≡ number32 bs (4 * i) → notFinite (samplesIn bs) i ≡ not (finite (ofBits binary32 p))
-  unfolding samplesIn notFinite
-  not-finite-at i p l e =
-      ap (λ (x : Float). not (finite x)) (getD-listed (length bs / 4) (sampleIn bs) i nan l)
-      ∙ ap (λ (x : Float). not (finite x)) (sym (sample-of i p e))
-
--- ---- the bytes of one block
 
 module _ (n : ℕ) (bs : List ℕ) (whole : length bs ≡ 4 * n) where
   pub samples-n : length (samplesIn bs) ≡ n
@@ -84,3 +68,10 @@ module _ (H : Matrix) (S : Choice) (bs : List ℕ) where
         answer = rw e (d .answer ∙ ap (λ (x : List Float). reportAt H (hardBit x) (endFrom H S x)) q);
         word = rw e (d .word ∙ ap (λ (x : List Float). over (iterativeWord H S x) w) q);
       }
+
+-- a block is decoded by the whole call of iterative voting: once matrix and setting are accepted, only refusal 8 is left to ask
+pub block-is-call : (H : Matrix) (S : Choice) (xs : List Float) (bytes levels : ℕ) → Decodable H S → length xs ≡ H .n → bytesFor (H .n) ≤ bytes → H .n ≤ levels
+    → iterativeOf H S xs bytes levels ≡ blockSaid H S xs
+unfolding iterativeOf iterativeVerdict blockSaid blockVerdict
+block-is-call H S xs bytes levels d e w l =
+    rw (is-accepted H (d .matrix), d .setting, eq-eqb (length xs) (H .n) e, le-ltb bytes (bytesFor (H .n)) w, le-ltb levels (H .n) l)

@@ -1,5 +1,3 @@
-pub mod Patterns
 pub mod Answering
-pub mod Settings
-pub mod Openings
 pub mod Lining
+pub mod Pieces

@@ -2,7 +2,7 @@
 --   Lined H S i bs at old k from new end   == the lines of the first k blocks are put, and block k begins at `from`
 -- Assumes nothing.
 use mathlib.Core.Path.{_≡_, refl, sym, ap, ap₂, _∙_}
-use mathlib.Core.List.{List, [], _++_, append-nil}
+use mathlib.Core.List.{List, append-nil}
 use Prim.Native.Nat.{ℕ, suc, min, _+_, _*_, _-_, _/_, _%_, _≤_, _<_}
 use native.Mathlib.Nat.{le-refl, zero-mul, suc-mul, mul-left-comm, mul-le-mul-right, le-div-iff-mul-le, div-lt-iff-lt-mul}
 use native.Mathlib.Numerals.{add-one}
@@ -20,9 +20,10 @@ use Rattle.iterative.specs.Iterative.{endFrom, reportAt, iterativeWord}
 use Rattle.text.specs.Output.{shortText, saidText, blockText}
 use Rattle.text.specs.Putting.{PutWithin}
 use Rattle.text.proofs.Puts.{put-none, put-then, put-as, put-length}
-use Rattle.stream.specs.Input.{samplesIn}
-use Rattle.stream.specs.Reading.{Decodable, Answered, Printable, Countable, Held, AtOnce}
-use Rattle.stream.specs.Program.{blockVerdict, blockSaid, blockLine, blockAt, blockLines, chunkText}
+use Rattle.input.specs.Input.{samplesIn}
+use Rattle.input.specs.Opening.{Decodable}
+use Rattle.stream.specs.Lending.{Answered, Printable, Countable, Held, AtOnce}
+use Rattle.stream.specs.Program.{blockVerdict, blockSaid, blockLine, blocksIn, blockAt, blockLines, chunkText}
 
 -- ---- counting blocks of d bytes
 
@@ -83,7 +84,7 @@ module _ (H : Matrix) (S : Choice) where
 
       -- another block fits
       module _ (h : 4 * H .n ≤ length bs - from) where
-        pub counted : k + 1 ≤ length bs / (4 * H .n)
+        pub counted : k + 1 ≤ blocksIn H bs
         counted = counts-more (4 * H .n) (length bs) k some (omega (arith, l .begins, l .inside, some))
 
         part : take (from + 4 * H .n - from) (drop from bs) ≡ blockAt H bs k
@@ -113,34 +114,34 @@ module _ (H : Matrix) (S : Choice) where
             }
 
       -- all lines
-      pub lined-all : length bs - from < 4 * H .n → PutWithin (289 * (length bs / (4 * H .n))) (blockLines H S i (length bs / (4 * H .n)) bs) at old new end
+      pub lined-all : length bs - from < 4 * H .n → PutWithin (289 * (blocksIn H bs)) (blockLines H S i (blocksIn H bs) bs) at old new end
       lined-all h =
-          let e : k ≡ length bs / (4 * H .n) = counts-all (4 * H .n) (length bs) k some (omega (arith, l .begins, l .inside)) (omega (arith, l .begins)) in
+          let e : k ≡ blocksIn H bs = counts-all (4 * H .n) (length bs) k some (omega (arith, l .begins, l .inside)) (omega (arith, l .begins)) in
           rw e at (l .put)
 
     -- ---- the end of a chunk
 
     -- it ends with a block
-    pub chunk-whole : {most end : ℕ} {new : List ℕ} → length bs % (4 * H .n) ≡ 0 → PutWithin most (blockLines H S i (length bs / (4 * H .n)) bs) at old new end → PutWithin (most + 6) (chunkText H S i bs) at old new end
+    pub chunk-whole : {end : ℕ} {new : List ℕ} → length bs % (4 * H .n) ≡ 0 → PutWithin (289 * blocksIn H bs) (blockLines H S i (blocksIn H bs) bs) at old new end → PutWithin (289 * blocksIn H bs + 6) (chunkText H S i bs) at old new end
     unfolding chunkText
     chunk-whole e p = record { put = put-as (rw (eq-eqb (length bs % (4 * H .n)) 0 e) (sym (append-nil _))) (p .put); within = omega (arith, p .within) }
 
     -- it does not
-    pub chunk-cut : {most next end : ℕ} {mid new : List ℕ} → (length bs % (4 * H .n) ≡ 0 → ⊥) → PutWithin most (blockLines H S i (length bs / (4 * H .n)) bs) at old mid next → PutWithin 6 shortText next mid new end
-        → PutWithin (most + 6) (chunkText H S i bs) at old new end
+    pub chunk-cut : {next end : ℕ} {mid new : List ℕ} → (length bs % (4 * H .n) ≡ 0 → ⊥) → PutWithin (289 * blocksIn H bs) (blockLines H S i (blocksIn H bs) bs) at old mid next → PutWithin 6 shortText next mid new end
+        → PutWithin (289 * blocksIn H bs + 6) (chunkText H S i bs) at old new end
     unfolding chunkText
     chunk-cut ne p q =
         record { put = put-as (rw (ne-eqb (length bs % (4 * H .n)) 0 ne)) (put-then (p .put) (q .put)); within = omega (arith, p .within, q .within) }
 
     -- either way it ends in the buffer
-    pub chunk-ends : {end : ℕ} {new : List ℕ} → Countable H S i bs at old → PutWithin (289 * (length bs / (4 * H .n)) + 6) (chunkText H S i bs) at old new end → end ≤ length new
+    pub chunk-ends : {end : ℕ} {new : List ℕ} → Countable H S i bs at old → PutWithin (289 * (blocksIn H bs) + 6) (chunkText H S i bs) at old new end → end ≤ length new
     chunk-ends c p = omega (arith, c .room, p .within, put-length (p .put))
 
 -- the blocks that are read at once may be printed
 pub countable : (H : Matrix) (S : Choice) {i k at : ℕ} {bs out : List ℕ} → Decodable H S → AtOnce (H .n) i k → length bs ≤ k * (4 * H .n) → Held at out → Countable H S i bs at out
 countable H S {i} {k} {at} {bs} d o h b =
     let some : 0 < 4 * H .n = omega (arith, d .matrix .sizes .n-least) in
-    let few : length bs / (4 * H .n) < suc k = div-lt-iff-lt-mul some .1 (rw (suc-mul k (4 * H .n)) (omega (arith, some))) in
+    let few : blocksIn H bs < suc k = div-lt-iff-lt-mul some .1 (rw (suc-mul k (4 * H .n)) (omega (arith, some))) in
     record { decodable = d; numbers = omega (arith, few, o .numbers); room = omega (arith, few, o .few, b .little, b .long) }
 
 -- blocks that fit the input buffer, at most 200, and no more than are left

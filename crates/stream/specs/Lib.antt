@@ -1,5 +1,5 @@
 -- What the contracts of `stream` cite.
-pub mod Input
-pub mod Reading
 pub mod Program
-pub mod Runs
+pub mod Lending
+pub mod Turns
+pub mod Examples

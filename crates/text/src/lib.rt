@@ -53,7 +53,7 @@ fn put_last(out: &mut [u8], at: usize, x: u16) -> usize
 }
 
 // The digits of x: those of x / 10, and then the last one.
-pub fn put_decimal(out: &mut [u8], at: usize, x: u16) -> usize
+fn put_decimal(out: &mut [u8], at: usize, x: u16) -> usize
     requires { ⌜ Room (decimal x) at (now out) ⌝ }
     ensures { λ r. ⌜ Put (decimal x) at (now (out .entry)) (now (out .exit)) r ⌝ }
 {
@@ -74,7 +74,7 @@ fn put_pair(out: &mut [u8], at: usize, b: u8) -> usize
 }
 
 // Two digits for each byte.
-pub fn put_hex(out: &mut [u8], at: usize, word: &[u8]) -> usize
+fn put_hex(out: &mut [u8], at: usize, word: &[u8]) -> usize
     requires { ⌜ Room (hex (now word)) at (now out) ⌝ }
     ensures { λ r. ⌜ Put (hex (now (word .entry))) at (now (out .entry)) (now (out .exit)) r ⌝ }
 {

@@ -1,9 +1,9 @@
 -- `stream::at_once` meets its contract: the least of three numbers. Assumes nothing.
-use mathlib.Core.Path.{_≡_, ap, sym, _∙_, subst}
-use Prim.Native.Nat.{ℕ, min, _-_, _/_}
-use Rattle.stream.specs.Reading.{AtOnce}
-use Rattle.stream.proofs.Lining.{at-once}
+use mathlib.Core.Path.{ap, sym, _∙_, subst}
+use Prim.Native.Nat.{ℕ, min, _-_}
 use borrow.Author.Needs.{needs}
+use Rattle.stream.specs.Lending.{AtOnce}
+use Rattle.stream.proofs.Lining.{at-once}
 use Rattle.stream.proofs.at_once.Statement.{statement}
 use Rattle.stream.proofs.at_once.Tie as tie
 

@@ -1,10 +1,10 @@
 -- `stream::block` meets its contract: the line of the answer and the word. Assumes nothing.
 use native.Mathlib.Omega.{arith}
+use borrow.Author.Needs.{needs}
 use lib.ListN.{length-take}
 use Rattle.parity_check.specs.Shapes.{matrixOf}
 use Rattle.quantiser.specs.Settings.{choiceOf}
 use Rattle.stream.proofs.Lining.{line-put}
-use borrow.Author.Needs.{needs}
 use Rattle.stream.proofs.block.Statement.{statement}
 use Rattle.stream.proofs.block.Tie as tie
 

@@ -2,9 +2,9 @@
 use mathlib.Core.Path.{_≡_}
 use Prim.Native.Nat.{ℕ, _-_}
 use native.Mathlib.Omega.{arith}
-use lib.ListN.{length, length-replicate}
 use borrow.Author.Needs.{needs}
-use Rattle.stream.specs.Reading.{Held}
+use lib.ListN.{length, length-replicate}
+use Rattle.stream.specs.Lending.{Held}
 use Rattle.stream.proofs.blocks.Statement.{statement}
 use Rattle.stream.proofs.blocks.Tie as tie
 
@@ -23,7 +23,7 @@ slice-aggregate-turn c = search needs
 turn-requires : tie.Need-turn-requires Inv-loop μ-loop
 turn-requires c κs =
     let l = c .before .before .before in
-    (l .before .before .before .pre .0, c .before .before .loop-test .taken, l .loop .inv .0, l .loop .inv .1)
+    record { decodable = l .before .before .before .pre .0; left = c .before .before .loop-test .taken; long = l .loop .inv .0; held = l .loop .inv .1 }
 
 loop-less : tie.Need-loop-less Inv-loop μ-loop
 loop-less c = omega arith

@@ -1,8 +1,8 @@
 -- `stream::chunk` meets its contract: the lines, and `short` unless the bytes end with a block. Assumes nothing.
+use borrow.Author.Needs.{needs}
 use Rattle.parity_check.specs.Shapes.{matrixOf}
 use Rattle.quantiser.specs.Settings.{choiceOf}
 use Rattle.stream.proofs.Lining.{chunk-whole, chunk-cut}
-use borrow.Author.Needs.{needs}
 use Rattle.stream.proofs.chunk.Statement.{statement}
 use Rattle.stream.proofs.chunk.Tie as tie
 

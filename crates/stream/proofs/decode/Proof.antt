@@ -1,17 +1,11 @@
 -- `stream::decode` meets its contract: refusal 8, or the core's answer on the samples. Assumes nothing.
-use Rattle.quantiser.specs.Samples.{firstNotFinite}
-use mathlib.Core.Path.{_≡_, sym, ap, ap₂, _∙_, subst}
-use mathlib.Core.List.{List}
-use Prim.Native.Nat.{ℕ, _*_, _≤_, _<_}
-use native.Mathlib.Omega.{arith}
-use lib.Ieee.{Float}
-use lib.ListN.{length, take}
-use Rattle.iterative.specs.Calls.{Lent, Decoded}
-use Rattle.quantiser.specs.Settings.{choiceOf}
-use Rattle.parity_check.specs.Shapes.{matrixOf}
-use Rattle.stream.specs.Input.{samplesIn}
-use Rattle.stream.proofs.Answering.{samples-n, block-refuses, block-passes, all-finite, all-written, answered-refused, answered}
+use mathlib.Core.Path.{sym, ap, _∙_}
 use borrow.Author.Needs.{needs}
+use lib.ListN.{length}
+use Rattle.parity_check.specs.Shapes.{matrixOf}
+use Rattle.quantiser.specs.Samples.{firstNotFinite}
+use Rattle.quantiser.specs.Settings.{choiceOf}
+use Rattle.stream.proofs.Answering.{samples-n, block-refuses, block-passes, all-finite, all-written, answered-refused, answered}
 use Rattle.stream.proofs.decode.Statement.{statement}
 use Rattle.stream.proofs.decode.Tie as tie
 

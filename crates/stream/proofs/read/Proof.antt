@@ -1,7 +1,7 @@
 -- `stream::read` meets its contract. Assumes nothing.
 use native.Mathlib.Omega.{arith}
-use lib.ListN.{length-take}
 use borrow.Author.Needs.{needs}
+use lib.ListN.{length-take}
 use Rattle.stream.proofs.read.Statement.{statement}
 use Rattle.stream.proofs.read.Tie as tie
 

@@ -1,7 +1,7 @@
 -- `stream::read_list` meets its contract. Assumes nothing.
 use native.Mathlib.Omega.{arith}
-use lib.ListN.{length-take}
 use borrow.Author.Needs.{needs}
+use lib.ListN.{length-take}
 use Rattle.stream.proofs.read_list.Statement.{statement}
 use Rattle.stream.proofs.read_list.Tie as tie
 

@@ -1,8 +1,6 @@
 -- `stream::run` meets its contract: it goes on with sizes in range. Assumes nothing.
 use mathlib.Core.Path.{sym, _∙_}
-use native.Mathlib.Omega.{arith}
 use borrow.Author.Tests.{not-false}
-use Rattle.text.proofs.Puts.{put-length}
 use borrow.Author.Needs.{needs}
 use Rattle.stream.proofs.run.Statement.{statement}
 use Rattle.stream.proofs.run.Tie as tie

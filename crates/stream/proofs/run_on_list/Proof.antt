@@ -1,10 +1,10 @@
 -- `stream::run_on_list` meets its contract: the blocks are read with an accepted matrix and a setting in range. Assumes nothing.
 use mathlib.Core.Path.{ap}
-use Rattle.parity_check.specs.Shapes.{matrixOf}
-use Rattle.stream.specs.Input.{choiceIn}
-use Rattle.stream.specs.Runs.{openedOf}
-use Rattle.stream.proofs.Openings.{decodable}
 use borrow.Author.Needs.{needs}
+use Rattle.parity_check.specs.Shapes.{matrixOf}
+use Rattle.input.specs.Input.{choiceIn}
+use Rattle.input.specs.Runs.{openedOf}
+use Rattle.input.proofs.Openings.{decodable}
 use Rattle.stream.proofs.run_on_list.Statement.{statement}
 use Rattle.stream.proofs.run_on_list.Tie as tie
 

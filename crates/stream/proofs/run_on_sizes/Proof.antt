@@ -2,10 +2,10 @@
 use mathlib.Core.List.{[]}
 use Prim.Native.Nat.{ℕ}
 use native.Mathlib.Omega.{arith}
+use borrow.Author.Needs.{needs}
 use lib.ListN.{length-take, length-replicate}
 use Rattle.parity_check.specs.Shapes.{matrixOf}
-use Rattle.stream.proofs.Openings.{few}
-use borrow.Author.Needs.{needs}
+use Rattle.input.proofs.Openings.{few}
 use Rattle.stream.proofs.run_on_sizes.Statement.{statement}
 use Rattle.stream.proofs.run_on_sizes.Tie as tie
 

@@ -1,11 +1,11 @@
 -- `stream::turn` meets its contract: what is read at once may be printed, and the number rises. Assumes nothing.
-use native.Mathlib.Omega.{arith}
 use Prim.Native.Nat.{_*_, _≤_}
+use native.Mathlib.Omega.{arith}
+use borrow.Author.Needs.{needs}
 use lib.ListN.{length, take, length-take}
 use Rattle.parity_check.specs.Shapes.{matrixOf}
 use Rattle.quantiser.specs.Settings.{choiceOf}
 use Rattle.stream.proofs.Lining.{chunk-ends, countable}
-use borrow.Author.Needs.{needs}
 use Rattle.stream.proofs.turn.Statement.{statement}
 use Rattle.stream.proofs.turn.Tie as tie
 
@@ -35,7 +35,7 @@ chunk-requires c κs =
     let r = c .before .before .before .before in
     let o = r .before .before in
     let s = o .before .before .before .before .before in
-    countable (matrixOf (s .args .shape) (s .args .list .now)) (choiceOf (s .args .setting)) (s .pre .0) (o .at-once .ensures) (simp length-take (omega arith)) (s .pre .3)
+    countable (matrixOf (s .args .shape) (s .args .list .now)) (choiceOf (s .args .setting)) (s .pre .decodable) (o .at-once .ensures) (simp length-take (omega arith)) (s .pre .held)
 
 print-requires : tie.Need-print-requires
 print-requires c κs =
@@ -47,7 +47,7 @@ print-requires c κs =
     let S = choiceOf (s .args .setting) in
     let bs = take (r .read .result) (r .read .last .0) in
     let few : length bs ≤ o .at-once .result * (4 * s .args .shape .n) = simp length-take (omega arith) in
-    chunk-ends H S (s .args .number) bs (s .args .at) (s .args .out .now) (countable H S (s .pre .0) (o .at-once .ensures) few (s .pre .3)) (k .chunk .ensures)
+    chunk-ends H S (s .args .number) bs (s .args .at) (s .args .out .now) (countable H S (s .pre .decodable) (o .at-once .ensures) few (s .pre .held)) (k .chunk .ensures)
 
 same-length : tie.Need-same-length
 same-length c = search needs

@@ -1,7 +1,7 @@
 -- `text::digit` meets its contract: the test is the definition's. Assumes nothing.
 use borrow.Author.Tests.{lt-ltb, le-ltb}
-use Rattle.text.specs.Output.{digit}
 use borrow.Author.Needs.{needs}
+use Rattle.text.specs.Output.{digit}
 use Rattle.text.proofs.digit.Statement.{statement}
 use Rattle.text.proofs.digit.Tie as tie
 

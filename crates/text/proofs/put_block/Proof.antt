@@ -1,12 +1,11 @@
 -- `text::put_block` meets its contract: the number, and then a report or a refusal. Assumes nothing.
 use mathlib.Core.Path.{sym, ap}
 use native.Mathlib.Omega.{arith}
+use borrow.Author.Needs.{needs}
 use Rattle.answers.specs.declared.Answer.{Answer}
 use Rattle.answers.specs.Answers.{saidOf}
 use Rattle.text.specs.Output.{saidText, blockText}
-use Rattle.text.proofs.Puts.{put-then, put-as, put-length}
-use Rattle.text.proofs.Numerals.{number-ends}
-use borrow.Author.Needs.{needs}
+use Rattle.text.proofs.Puts.{put-then, put-as}
 use Rattle.text.proofs.put_block.Statement.{statement}
 use Rattle.text.proofs.put_block.Tie as tie
 

@@ -1,7 +1,7 @@
 -- `text::put_heading` meets its contract. Assumes nothing.
 use native.Mathlib.Omega.{arith}
-use Rattle.text.specs.Output.{heading}
 use borrow.Author.Needs.{needs}
+use Rattle.text.specs.Output.{heading}
 use Rattle.text.proofs.put_heading.Statement.{statement}
 use Rattle.text.proofs.put_heading.Tie as tie
 

@@ -1,9 +1,9 @@
 -- `text::put_last` meets its contract. Assumes nothing.
-use Prim.Native.Nat.{ℕ}
-use mathlib.Core.List.{[], _∷_}
 use mathlib.Core.Path.{ap}
-use Rattle.text.proofs.Puts.{put-as}
+use mathlib.Core.List.{[], _∷_}
+use Prim.Native.Nat.{ℕ}
 use borrow.Author.Needs.{needs}
+use Rattle.text.proofs.Puts.{put-as}
 use Rattle.text.proofs.put_last.Statement.{statement}
 use Rattle.text.proofs.put_last.Tie as tie
 

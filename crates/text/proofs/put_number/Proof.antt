@@ -1,8 +1,8 @@
 -- `text::put_number` meets its contract: the digits, and the byte after them. Assumes nothing.
 use native.Mathlib.Omega.{arith}
+use borrow.Author.Needs.{needs}
 use Rattle.text.proofs.Puts.{put-then, put-length}
 use Rattle.text.proofs.Numerals.{decimal-five, number-ends}
-use borrow.Author.Needs.{needs}
 use Rattle.text.proofs.put_number.Statement.{statement}
 use Rattle.text.proofs.put_number.Tie as tie
 

@@ -1,12 +1,12 @@
 -- `text::put_outcome` meets its contract in each case. Assumes nothing.
-use native.Mathlib.Omega.{arith}
 use mathlib.Core.Path.{sym, ap}
 use mathlib.Core.List.{_++_}
+use native.Mathlib.Omega.{arith}
+use borrow.Author.Needs.{needs}
 use Rattle.answers.specs.declared.Outcome.{Outcome}
 use Rattle.answers.specs.Answers.{outcomeOf}
 use Rattle.text.specs.Output.{ascii, outcomeText}
 use Rattle.text.proofs.Puts.{put-as}
-use borrow.Author.Needs.{needs}
 use Rattle.text.proofs.put_outcome.Statement.{statement}
 use Rattle.text.proofs.put_outcome.Tie as tie
 

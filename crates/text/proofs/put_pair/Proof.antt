@@ -1,10 +1,10 @@
 -- `text::put_pair` meets its contract: one digit after the other. Assumes nothing.
-use Rattle.text.specs.Output.{hex}
-use Prim.Native.Nat.{ℕ}
-use mathlib.Core.List.{[], _∷_}
 use mathlib.Core.Path.{ap₂}
-use Rattle.text.proofs.Puts.{put-as, put-then}
+use mathlib.Core.List.{[], _∷_}
+use Prim.Native.Nat.{ℕ}
 use borrow.Author.Needs.{needs}
+use Rattle.text.specs.Output.{hex}
+use Rattle.text.proofs.Puts.{put-as, put-then}
 use Rattle.text.proofs.put_pair.Statement.{statement}
 use Rattle.text.proofs.put_pair.Tie as tie
 

@@ -1,10 +1,9 @@
 -- `text::put_refused` meets its contract: the word, the number and the place, one after the other. Assumes nothing.
 use mathlib.Core.Path.{ap₂}
 use native.Mathlib.Omega.{arith}
-use Rattle.text.specs.Output.{line, refusedText}
-use Rattle.text.proofs.Puts.{put-then, put-as, put-length}
-use Rattle.text.proofs.Numerals.{number-ends}
 use borrow.Author.Needs.{needs}
+use Rattle.text.specs.Output.{line, refusedText}
+use Rattle.text.proofs.Puts.{put-then, put-as}
 use Rattle.text.proofs.put_refused.Statement.{statement}
 use Rattle.text.proofs.put_refused.Tie as tie
 

@@ -1,10 +1,8 @@
 -- `text::put_report` meets its contract: the fields one after the other. Assumes nothing.
 use native.Mathlib.Omega.{arith}
-use Rattle.text.specs.Output.{line, saidText}
-use Rattle.text.proofs.Puts.{put-then, put-as, put-length}
-use Rattle.text.proofs.Numerals.{number-ends}
-use Rattle.text.proofs.Numerals.{length-hex}
 use borrow.Author.Needs.{needs}
+use Rattle.text.specs.Output.{line, saidText}
+use Rattle.text.proofs.Puts.{put-then}
 use Rattle.text.proofs.put_report.Statement.{statement}
 use Rattle.text.proofs.put_report.Tie as tie
 

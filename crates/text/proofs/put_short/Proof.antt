@@ -1,7 +1,7 @@
 -- `text::put_short` meets its contract. Assumes nothing.
 use native.Mathlib.Omega.{arith}
-use Rattle.text.specs.Output.{line, shortText}
 use borrow.Author.Needs.{needs}
+use Rattle.text.specs.Output.{line, shortText}
 use Rattle.text.proofs.put_short.Statement.{statement}
 use Rattle.text.proofs.put_short.Tie as tie
 

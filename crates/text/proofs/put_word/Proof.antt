@@ -1,8 +1,8 @@
 -- `text::put_word` meets its contract: the digits, and the line's end. Assumes nothing.
 use native.Mathlib.Omega.{arith}
+use borrow.Author.Needs.{needs}
 use Rattle.text.proofs.Puts.{put-then}
 use Rattle.text.proofs.Numerals.{length-hex}
-use borrow.Author.Needs.{needs}
 use Rattle.text.proofs.put_word.Statement.{statement}
 use Rattle.text.proofs.put_word.Tie as tie
 

@@ -1,0 +1,4 @@
+pub mod Patterns
+pub mod Sampling
+pub mod Settings
+pub mod Openings
