@@ -11,7 +11,8 @@ run: tools decode
 # The layout, the Rust tests, then the gate: its 'N passed, 0 failed' is the last line.
 test: tools
 	rt fmt --check
-	$(MAKE) --no-print-directory staticlib decode
+	rt check ffi decode
+	$(MAKE) --no-print-directory staticlib
 	cargo test --release --workspace
 	rt ci
 
