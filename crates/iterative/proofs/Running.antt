@@ -10,7 +10,7 @@ use Rattle.counting.proofs.Integers.{abs-sub}
 use Rattle.packed_word.specs.Steps.{at}
 use Rattle.parity_check.specs.Code.{Matrix, Word, failing}
 use Rattle.parity_check.proofs.Rows.{failing-cong}
-use Rattle.votes.specs.Tallies.{Tallied}
+use Rattle.running_tally.specs.Parities.{Retallied}
 use Rattle.iterative.specs.Rounds.{State}
 use Rattle.soft_levels.specs.Levels.{biased, unbiased, Moved}
 use Rattle.iterative.specs.Stages.{stateAt, Alike}
@@ -69,21 +69,21 @@ moved-word H v gamma L top z x z′ x′ m j l = omega (arith, m .bits j l, abov
 
 -- ---- the invariant
 
-pub record Going (H : Matrix) (L limit : ℕ) (s : State) (z x v : List ℕ) (f k : ℕ) : Type 0 where
+pub record Going (H : Matrix) (L limit : ℕ) (s : State) (z x p v : List ℕ) (f k : ℕ) : Type 0 where
   pub within : k ≤ limit
   pub holds : Holds (H .n) L z x (stateAt H L s k)
-  pub tallied : Tallied H (at z) v f
+  pub tallied : Retallied H (at z) p v f
   pub earlier : (t : ℕ) → t < k → 0 < failing H (stateAt H L s t .z)
 
 module _ (H : Matrix) (L limit : ℕ) (z₀ x₀ : List ℕ) (r : Ready H L z₀ x₀) where
-  pub going-starts : (v : List ℕ) (f : ℕ) → Tallied H (at z₀) v f → Going H L limit (stateOf L z₀ x₀) z₀ x₀ v f 0
+  pub going-starts : (p v : List ℕ) (f : ℕ) → Retallied H (at z₀) p v f → Going H L limit (stateOf L z₀ x₀) z₀ x₀ p v f 0
   unfolding stateAt
-  going-starts v f t =
+  going-starts p v f t =
       record { within = omega arith; holds = ready-holds H L z₀ x₀ r; tallied = t; earlier = λ i h. absurd (omega arith) }
 
-  module _ (z x v : List ℕ) (f k : ℕ) (g : Going H L limit (stateOf L z₀ x₀) z x v f k) where
+  module _ (z x p v : List ℕ) (f k : ℕ) (g : Going H L limit (stateOf L z₀ x₀) z x p v f k) where
     now-fails : f ≡ failing H (stateAt H L (stateOf L z₀ x₀) k .z)
-    now-fails = g .tallied .count ∙ failing-cong H (r .matrix .rows) (at z) (stateAt H L (stateOf L z₀ x₀) k .z) (g .holds .word)
+    now-fails = g .tallied .tallied .count ∙ failing-cong H (r .matrix .rows) (at z) (stateAt H L (stateOf L z₀ x₀) k .z) (g .holds .word)
 
     pub going-ready : Ready H L z x
     going-ready = holds-ready H L z x (stateAt H L (stateOf L z₀ x₀) k) z₀ x₀ r (g .holds)
@@ -95,14 +95,14 @@ module _ (H : Matrix) (L limit : ℕ) (z₀ x₀ : List ℕ) (r : Ready H L z₀
         (record { holds = g .holds; rounds = refl; fails = now-fails })
 
     -- one round more
-    pub going-step : 0 < f → k < limit → (z′ x′ v′ : List ℕ) (f′ : ℕ) → Rounded H L v z x z′ x′ v′ f′
-        → Going H L limit (stateOf L z₀ x₀) z′ x′ v′ f′ (k + 1)
+    pub going-step : 0 < f → k < limit → (z′ x′ p′ v′ : List ℕ) (f′ : ℕ) → Rounded H L v z x z′ x′ p′ v′ f′
+        → Going H L limit (stateOf L z₀ x₀) z′ x′ p′ v′ f′ (k + 1)
     unfolding stateAt
-    going-step p l z′ x′ v′ f′ t =
+    going-step h l z′ x′ p′ v′ f′ t =
         rw (add-one k)
         (record {
           within = omega arith;
-          holds = round-holds H (r .matrix) L (stateAt H L (stateOf L z₀ x₀) k) v z x z′ x′ (g .holds) (g .tallied .each) (t .moved);
+          holds = round-holds H (r .matrix) L (stateAt H L (stateOf L z₀ x₀) k) v z x z′ x′ (g .holds) (g .tallied .tallied .each) (t .moved);
           tallied = t .tallied;
-          earlier = λ i h. elim (ℕ-discrete i k) [ yes e ↦ rw e (omega (arith, now-fails)) | no ne ↦ g .earlier i (omega arith) ];
+          earlier = λ i q. elim (ℕ-discrete i k) [ yes e ↦ rw e (omega (arith, now-fails)) | no ne ↦ g .earlier i (omega arith) ];
         })

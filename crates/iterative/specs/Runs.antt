@@ -2,7 +2,7 @@
 --   stateOf L z x        == the state that the bits z and the levels x stand for
 --   Holds n L z x s      == they stand for the state s below n
 --   Ready H L z x        == what a round asks: an accepted matrix, bits, and levels in their range
---   Rounded              == what a round leaves: the next bits and levels, their votes and their failing checks
+--   Rounded              == what a round leaves: the next bits and levels, their parities, their votes and their failing checks
 --   Stopped H L e ..     == the arrays hold the state of the end e, with its rounds and its failing checks
 --   Ran                  == what the rounds from the arrays' state on leave
 -- Levels are kept as in Levels.antt. Assumes nothing.
@@ -14,7 +14,7 @@ use lib.ListN.{length}
 use Rattle.packed_word.specs.Steps.{at}
 use Rattle.parity_check.specs.Code.{Matrix, Word, failing}
 use Rattle.parity_check.specs.Reading.{Accepted}
-use Rattle.votes.specs.Tallies.{Tallied}
+use Rattle.running_tally.specs.Parities.{Retallied}
 use Rattle.iterative.specs.Rounds.{State, state, End, endOf}
 use Rattle.soft_levels.specs.Levels.{biased, unbiased, Moved}
 
@@ -37,10 +37,10 @@ pub record Ready (H : Matrix) (L : ℕ) (z x : List ℕ) : Type 0 where
   pub word : Word H (at z)
   pub within : (j : ℕ) → j < H .n → at x j ≤ 2 * L
 
--- bits z and levels x by the votes v, then the votes v′ of the new bits, f of whose checks fail
-pub record Rounded (H : Matrix) (L : ℕ) (v z x z′ x′ v′ : List ℕ) (f : ℕ) : Type 0 where
+-- bits z and levels x by the votes v, then the parities p′ and the votes v′ of the new bits, f of whose checks fail
+pub record Rounded (H : Matrix) (L : ℕ) (v z x z′ x′ p′ v′ : List ℕ) (f : ℕ) : Type 0 where
   pub moved : Moved v (H .n) (H .gamma) L (2 * L) z x z′ x′
-  pub tallied : Tallied H (at z′) v′ f
+  pub tallied : Retallied H (at z′) p′ v′ f
 
 -- the arrays hold the state at the end e, k and f are its rounds and its failing checks
 pub record Stopped (H : Matrix) (L : ℕ) (e : End) (z x : List ℕ) (k f : ℕ) : Type 0 where

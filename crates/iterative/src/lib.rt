@@ -16,6 +16,9 @@ ghost use Rattle.answers.specs.Answers.{reportOf, saidOf};
 ghost use Rattle.quantiser.specs.Samples.{mostBits, largest};
 ghost use Rattle.quantiser.specs.Settings.{choiceOf};
 ghost use Rattle.quantiser.specs.Filling.{Fillable};
+ghost use Rattle.packed_word.specs.Steps.{at};
+ghost use Rattle.column_index.specs.Index.{Indexed};
+ghost use Rattle.running_tally.specs.Parities.{Parities};
 ghost use Rattle.iterative.specs.Runs.{Ready, Rounded, Ran};
 ghost use Rattle.iterative.specs.Calls.{wrongLoan, Lent, Started, Decoded, Answered};
 
@@ -26,39 +29,55 @@ pub struct Stop {
 }
 
 // One round, steps 4 to 6: bits and levels by the votes of the old bits, then the votes of the new ones.
-// How many checks fail is asked next, so it is counted with the votes.
+// How many checks fail is asked next, so it is counted with the votes. Only this crate calls it.
 pub fn round(
     shape: Shape,
     list: &[u16],
+    index: &[u16],
     middle: u8,
     bits: &mut [u8; 1023],
     levels: &mut [u8; 1023],
+    parity: &mut [u8; 1023],
     votes: &mut [u8; 1023],
 ) -> u16
     requires { ⌜ Ready (matrixOf shape (now list)) middle (now bits) (now levels) ⌝ }
-    ensures { λ r. ⌜ Rounded (matrixOf shape (now (list .entry))) middle (now (votes .entry)) (now (bits .entry)) (now (levels .entry)) (now (bits .exit)) (now (levels .exit)) (now (votes .exit)) r ⌝ }
+    requires { ⌜ Indexed (matrixOf shape (now list)) (now index) × Parities (matrixOf shape (now list)) (at (now bits)) (now parity) ⌝ }
+    ensures { λ r. ⌜ Rounded (matrixOf shape (now (list .entry))) middle (now (votes .entry)) (now (bits .entry)) (now (levels .entry)) (now (bits .exit)) (now (levels .exit)) (now (parity .exit)) (now (votes .exit)) r ⌝ }
 {
     let n = shape.n as usize;
     let gamma = shape.gamma;
     let top = 2 * (middle as u16);
+    let before = *bits;
     soft_levels::update(votes, n, gamma, middle, top, bits, levels);
-    votes::tally(shape, list, bits, votes)
+    running_tally::retally(shape, list, index, &before, bits, parity, votes)
 }
 
-// Rounds until no check fails or the limit is reached.
+// Rounds until no check fails or the limit is reached. Only this crate calls it.
+// The parities of a word of zeros are 0, so that the first bits are tallied as those of any round.
 pub fn run(
     shape: Shape,
     list: &[u16],
+    index: &[u16],
     limit: u16,
     middle: u8,
     bits: &mut [u8; 1023],
     levels: &mut [u8; 1023],
 ) -> Stop
-    requires { ⌜ Ready (matrixOf shape (now list)) middle (now bits) (now levels) ⌝ }
+    requires { ⌜ Ready (matrixOf shape (now list)) middle (now bits) (now levels) × Indexed (matrixOf shape (now list)) (now index) ⌝ }
     ensures { λ r. ⌜ Ran (matrixOf shape (now (list .entry))) middle limit (now (bits .entry)) (now (levels .entry)) (now (bits .exit)) (now (levels .exit)) (r .rounds) (r .failing) ⌝ }
 {
+    let zeros = [0u8; 1023];
+    let mut parity = [0u8; 1023];
     let mut votes = [0u8; 1023];
-    let mut failing = votes::tally(shape, list, bits, &mut votes);
+    let mut failing = running_tally::retally(
+        shape,
+        list,
+        index,
+        &zeros,
+        bits,
+        &mut parity,
+        &mut votes,
+    );
     let mut k: u16 = 0;
     while k < limit {
         if failing == 0 {
@@ -67,7 +86,16 @@ pub fn run(
                 failing: 0,
             };
         }
-        failing = round(shape, list, middle, bits, levels, &mut votes);
+        failing = round(
+            shape,
+            list,
+            index,
+            middle,
+            bits,
+            levels,
+            &mut parity,
+            &mut votes,
+        );
         k += 1;
     }
     Stop { rounds: k, failing }
@@ -108,16 +136,18 @@ fn start(
     soft_levels::bias(levels, n, middle, kept);
 }
 
-// The core, for a matrix, a setting and samples that are known to be accepted: the caller has asked the refusals.
+// The core, for a matrix, its index, a setting and samples that are known to be accepted.
+// Only this repository's crates call it, after asking the refusals.
 pub fn iterative_accepted(
     shape: Shape,
     list: &[u16],
+    index: &[u16],
     setting: Setting,
     samples: &[f32],
     word: &mut [u8],
     levels: &mut [i8],
 ) -> Report
-    requires { ⌜ Lent (matrixOf shape (now list)) (choiceOf setting) (now samples) (now word) (now levels) ⌝ }
+    requires { ⌜ Lent (matrixOf shape (now list)) (choiceOf setting) (now samples) (now word) (now levels) × Indexed (matrixOf shape (now list)) (now index) ⌝ }
     ensures { λ r. ⌜ Decoded (matrixOf shape (now (list .entry))) (choiceOf setting) (now (samples .entry)) (reportOf r) (now (word .entry)) (now (word .exit)) (now (levels .entry)) (now (levels .exit)) ⌝ }
 {
     let n = shape.n as usize;
@@ -128,11 +158,28 @@ pub fn iterative_accepted(
     let mut hard = [0u8; 128];
     start(setting, samples, middle, levels, &mut bits, &mut kept);
     packed_word::pack_into(&bits, n, &mut hard);
-    let stop = run(shape, list, limit, middle, &mut bits, &mut kept);
+    let stop = run(shape, list, index, limit, middle, &mut bits, &mut kept);
     packed_word::pack_into(&bits, n, word);
     soft_levels::unbias(&kept, n, middle, levels);
     let changed = changed_bits(word, &hard, n);
     votes::ended(stop.rounds, stop.failing, changed)
+}
+
+// The core with an index made for this call.
+fn with_index(
+    shape: Shape,
+    list: &[u16],
+    setting: Setting,
+    samples: &[f32],
+    word: &mut [u8],
+    levels: &mut [i8],
+) -> Report
+    requires { ⌜ Lent (matrixOf shape (now list)) (choiceOf setting) (now samples) (now word) (now levels) ⌝ }
+    ensures { λ r. ⌜ Decoded (matrixOf shape (now (list .entry))) (choiceOf setting) (now (samples .entry)) (reportOf r) (now (word .entry)) (now (word .exit)) (now (levels .entry)) (now (levels .exit)) ⌝ }
+{
+    let mut index = [0u16; 32736];
+    column_index::build(shape, list, &mut index);
+    iterative_accepted(shape, list, &index, setting, samples, word, levels)
 }
 
 // Whether the samples are not exactly n, or the word's or the levels' buffer is too short.
@@ -172,7 +219,7 @@ fn on_accepted(
     if found < n {
         return Answer::Refused(Refusal::Sample(found as u16));
     }
-    Answer::Done(iterative_accepted(shape, list, setting, samples, word, levels))
+    Answer::Done(with_index(shape, list, setting, samples, word, levels))
 }
 
 // Iterative voting on samples. The word and the levels are written in either outcome; a refused call writes nothing.

@@ -32,8 +32,8 @@ fn add_row(list: &[u16], from: usize, count: usize, votes: &mut [u8; 1023])
     }
 }
 
-// A vote more at each column of each listed row.
-fn add_rows(list: &[u16], rho: usize, rows: &[u16; 1023], count: usize, votes: &mut [u8; 1023])
+// A vote more at each column of each listed row. Only this repository's crates call it, with rows of an accepted matrix.
+pub fn add_rows(list: &[u16], rho: usize, rows: &[u16; 1023], count: usize, votes: &mut [u8; 1023])
     requires { ⌜ Parts (now list) rho (now rows) count × Room (ofRows (now list) rho (now rows) count) (now votes) ⌝ }
     ensures { λ _. ⌜ More (ofRows (now (list .entry)) rho (now (rows .entry)) count) (now (votes .entry)) (now (votes .exit)) ⌝ }
 {

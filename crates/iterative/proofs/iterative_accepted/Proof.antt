@@ -1,6 +1,6 @@
 -- `iterative::iterative_accepted` meets its contract: the rounds run from the samples' bits and levels, and what is written and counted is
 -- theirs at the end. Assumes nothing.
-use mathlib.Core.Path.{refl}
+use mathlib.Core.Path.{refl, _∙_}
 use Prim.Native.Nat.{ℕ}
 use native.Mathlib.Omega.{arith}
 use borrow.Author.Needs.{needs}
@@ -12,7 +12,7 @@ use Rattle.iterative.proofs.iterative_accepted.Tie as tie
 
 -- earlier places of the call, each from a later one
 abbrev entry : tie.After-start → tie.Start
-entry s = s .before .before .before .before .before .before .before .before .before
+entry s = s .before .before .before .before .before .before .before .before .before .before
 
 abbrev middle : tie.After-start → tie.After-middle-of
 middle s = s .before .before .before .before
@@ -27,11 +27,11 @@ cast-n : tie.Need-cast-n
 cast-n c = search needs
 
 middle-of-requires : tie.Need-middle-of-requires
-middle-of-requires c κs = let r = fits-reads _ (c .before .before .before .before .pre .setting) in (r .least, r .most)
+middle-of-requires c κs = let r = fits-reads _ (c .before .before .before .before .before .pre .0 .setting) in (r .least, r .most)
 
 start-requires : tie.Need-start-requires
 start-requires c κs =
-    let p = c .before .before .before .before .before .before .before .before .pre in (
+    let p = c .before .before .before .before .before .before .before .before .before .pre .0 in (
       record { setting = p .setting; finite = p .finite; few = omega (arith, p .samples, p .matrix .sizes .n-most); room = omega (arith, p .samples, p .room-levels) },
       c .before .before .before .middle-of .ensures,
       refl,
@@ -43,26 +43,26 @@ slice-aggregate-pack-into c = search needs
 pack-into-requires : tie.Need-pack-into-requires
 pack-into-requires c κs =
     let s = c .before .before .before in
-    let p = entry s .pre in
+    let p = entry s .pre .0 in
     (p .matrix .sizes .n-most, omega (arith, p .matrix .sizes .n-most), call-hard p (s .start .ensures) (middle s .middle-of .ensures))
 
 run-requires : tie.Need-run-requires
 run-requires c κs =
     let s = c .before .before .before .before .before .before .before in
-    call-ready (entry s .pre) (s .start .ensures) (middle s .middle-of .ensures)
+    (call-ready (entry s .pre .0) (s .start .ensures) (middle s .middle-of .ensures), entry s .pre .1)
 
 pack-into-requires-2 : tie.Need-pack-into-requires-2
 pack-into-requires-2 c κs =
     let r = c .before .before in
     let s = started r in
-    let p = entry s .pre in
+    let p = entry s .pre .0 in
     (p .matrix .sizes .n-most, p .room-word, call-bits p (s .start .ensures) (middle s .middle-of .ensures) (r .run .ensures))
 
 unbias-requires : tie.Need-unbias-requires
 unbias-requires c κs =
     let r = ran c in
     let s = started r in
-    call-restorable (entry s .pre) (s .start .ensures) (middle s .middle-of .ensures) (r .run .ensures)
+    call-restorable (entry s .pre .0) (s .start .ensures) (middle s .middle-of .ensures) (r .run .ensures)
 
 slice-aggregate-changed-bits : tie.Need-slice-aggregate-changed-bits
 slice-aggregate-changed-bits c = search needs
@@ -71,7 +71,7 @@ changed-bits-requires : tie.Need-changed-bits-requires
 changed-bits-requires c κs =
     let u = c .before .before .before in
     let r = ran (u .before) in
-    let p = entry (started r) .pre in (
+    let p = entry (started r) .pre .0 in (
       p .matrix .sizes .n-most,
       packed-room _ _ _ _ (u .before .before .before .before .before .pack-into2 .ensures) (p .room-word),
       packed-room _ _ _ _ (r .before .before .before .before .pack-into .ensures) (omega (arith, length-replicate {A = ℕ} 128 0)),
@@ -84,14 +84,14 @@ same-length : tie.Need-same-length
 same-length c = search needs
 
 same-length-2 : tie.Need-same-length-2
-same-length-2 c = search needs
+same-length-2 c = c .before .before .before .before .levels2 .given ∙ c .before .before .before .before .before .before .before .before .before .before .before .before .before .before .before .before .before .before .before .before .levels .given
 
 returns : tie.Need-returns
 returns c =
     let u = c .before .before .before .before .before in
     let r = ran (u .before) in
     let s = started r in
-    call-decoded (entry s .pre) (s .start .ensures) (middle s .middle-of .ensures) (r .run .ensures) _
+    call-decoded (entry s .pre .0) (s .start .ensures) (middle s .middle-of .ensures) (r .run .ensures) _
     (r .before .before .before .before .pack-into .ensures)
     (u .before .before .before .before .before .pack-into2 .ensures)
     (u .unbias .ensures)

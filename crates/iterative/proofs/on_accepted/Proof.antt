@@ -59,8 +59,8 @@ returns-3 c =
     let q = c .before .first-not-finite .ensures in
     refused-sample _ _ _ _ _ (c .before .before .before .before .before .before .before .before .before .before .pre) (fits (e .before .before)) (room e) _ (omega (arith, q, c .if3 .taken, count e)) (ap (refusal 8) q)
 
-iterative-accepted-requires : tie.Need-iterative-accepted-requires
-iterative-accepted-requires c κs =
+with-index-requires : tie.Need-with-index-requires
+with-index-requires c κs =
     let e = c .before .before in
     loan-lent _ _ _ _ _ (e .before .before .before .before .before .before .before .before .before .before .pre) (fits (e .before .before .before .before)) (room (e .before .before)) (all e)
 
@@ -74,7 +74,7 @@ returns-4 : tie.Need-returns-4
 returns-4 c =
     let d = c .before .before .before in
     let e = d .before .before .before in
-    answered-decoded _ _ _ _ _ (e .before .before .before .before .before .before .before .before .before .before .pre) (fits (e .before .before .before .before)) (room (e .before .before)) _ _ _ (all e) (d .iterative-accepted .ensures)
+    answered-decoded _ _ _ _ _ (e .before .before .before .before .before .before .before .before .before .before .pre) (fits (e .before .before .before .before)) (room (e .before .before)) _ _ _ (all e) (d .with-index .ensures)
 
 pub on-accepted-spec : {M : Type 1} → statement M
 on-accepted-spec =
@@ -88,7 +88,7 @@ on-accepted-spec =
     first-not-finite-requires
     cast-t17
     returns-3
-    iterative-accepted-requires
+    with-index-requires
     same-length
     same-length-2
     returns-4)

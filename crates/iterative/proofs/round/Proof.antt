@@ -14,14 +14,21 @@ mul-top c = search needs
 update-requires : tie.Need-update-requires
 update-requires c κs = search needs
 
-tally-requires : tie.Need-tally-requires
-tally-requires c κs =
-    let z = c .before .before .before .before .before .before .before .before in
+retally-requires : tie.Need-retally-requires
+retally-requires c κs =
+    let z = c .before .before .before .before .before .before .before .before .before .before .before .before in
     let H = matrixOf (z .args .shape) (z .args .list .now) in
-    (z .pre .matrix, moved-word H _ _ _ _ _ _ _ _ (c .before .before .update .ensures))
+    ((z .pre .0 .matrix, z .pre .1 .0), (z .pre .0 .word, moved-word H _ _ _ _ _ _ _ _ (c .before .before .before .before .update .ensures), z .pre .1 .1))
 
 returns : tie.Need-returns
 returns c = search needs
 
 pub round-spec : {M : Type 1} → statement M
-round-spec = tie.close (tie.spec cast-n mul-top update-requires tally-requires returns)
+round-spec =
+    tie.close
+    (tie.spec
+    cast-n
+    mul-top
+    update-requires
+    retally-requires
+    returns)

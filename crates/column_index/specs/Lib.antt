@@ -1,0 +1,2 @@
+-- What the contracts of `column_index` cite.
+pub mod Index

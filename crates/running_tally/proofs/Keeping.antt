@@ -1,0 +1,100 @@
+-- What is turned over makes the parities of one word those of another, and they give its votes. Assumes nothing.
+use mathlib.Core.Path.{_≡_, refl, sym, ap, _∙_}
+use mathlib.Core.List.{List}
+use Prim.Native.Nat.{ℕ, zero, suc, _+_, _*_, _-_, _%_, _≤_, _<_}
+use native.Mathlib.Nat.{mul-le-mul-right, mul-comm}
+use native.Mathlib.Omega.{arith}
+use lib.ListN.{length, replicate, length-replicate}
+use Rattle.counting.specs.Sum.{sum, differ}
+use Rattle.counting.proofs.Sums.{sum-cong, sum-add, sum-mul, sum-zero}
+use Rattle.counting.proofs.Writing.{zeros}
+use Rattle.packed_word.specs.Steps.{at}
+use Rattle.parity_check.specs.Code.{Matrix, entry, has, Word, fails}
+use Rattle.parity_check.specs.Reading.{Accepted}
+use Rattle.parity_check.proofs.Rows.{few-entries, row-sum}
+use Rattle.syndrome.specs.Places.{Part, Places}
+use Rattle.votes.specs.Tallies.{among}
+use Rattle.column_index.specs.Index.{Indexed}
+use Rattle.running_tally.specs.Parities.{Bits, Turned, flips, Columns, Parities}
+use Rattle.running_tally.proofs.Turning.{turned-bits}
+
+-- places by a test that agrees below m
+pub places-cong : (f g : ℕ → ℕ) (m : ℕ) (l : List ℕ) (t : ℕ) → ((i : ℕ) → i < m → f i ≡ g i) → Places f m l t → Places g m l t
+places-cong f g m l t e p =
+    record {
+      long = p .long;
+      few = p .few;
+      below = p .below;
+      each = λ x h. p .each x h ∙ e x h;
+      total = p .total ∙ sum-cong m e;
+    }
+
+-- a bit and whether it is turned, as the new bit and a double
+turned-bit : (h a b : ℕ) → a < 2 → b < 2 → h * a + differ a b * h ≡ h * b + 2 * (h * (a * (1 - b)))
+unfolding differ
+turned-bit h zero zero k l = omega arith
+turned-bit h zero (suc zero) k l = omega arith
+turned-bit h (suc zero) zero k l = omega arith
+turned-bit h (suc zero) (suc zero) k l = omega arith
+turned-bit h zero (suc (suc b)) k l = absurd (omega arith)
+turned-bit h (suc zero) (suc (suc b)) k l = absurd (omega arith)
+turned-bit h (suc (suc a)) b k l = absurd (omega arith)
+
+module _ (H : Matrix) (a : Accepted H) (x : List ℕ) (d : Indexed H x) where
+  -- the index as parts
+  pub columns : Columns x (H .n) (H .gamma)
+  columns =
+      record {
+        few = a .sizes .n-most;
+        part = λ j h.
+            let e : j * H .gamma + H .gamma ≤ H .m * H .rho = omega (arith, mul-le-mul-right (H .gamma) h, a .sizes .product) in
+            record {
+              room = omega (arith, d .long, few-entries H (a .sizes));
+              short = omega (arith, few-entries H (a .sizes));
+              below = λ q l. omega (arith, d .below j q h l, a .sizes .m-most);
+            };
+      }
+
+  module _ (z c : ℕ → ℕ) (wz : Word H z) (wc : Word H c) where
+    -- the parity of one check
+    turned-fails : (i : ℕ) → i < H .m → (fails H z i + flips x (H .gamma) z c (H .n) i) % 2 ≡ fails H c i
+    unfolding fails flips Word
+    turned-fails i h = omega (arith, row-sum H (a .rows) i h z, row-sum H (a .rows) i h c, turns-of, doubled)
+      where
+        turns-of : sum (H .n) (λ j. differ (z j) (c j) * among x (j * H .gamma) (H .gamma) i) ≡ sum (H .n) (λ j. differ (z j) (c j) * has H i j)
+        turns-of = sum-cong (H .n) (λ j l. ap (λ (y : ℕ). differ (z j) (c j) * y) (d .each j i l h))
+
+        doubled : sum (H .n) (λ j. has H i j * z j) + sum (H .n) (λ j. differ (z j) (c j) * has H i j)
+            ≡ sum (H .n) (λ j. has H i j * c j) + 2 * sum (H .n) (λ j. has H i j * (z j * (1 - c j)))
+        doubled =
+            sym (sum-add (H .n) (λ j. has H i j * z j) (λ j. differ (z j) (c j) * has H i j))
+            ∙ sum-cong (H .n) (λ j l. turned-bit (has H i j) (z j) (c j) (wz j l) (wc j l))
+            ∙ sum-add (H .n) (λ j. has H i j * c j) (λ j. 2 * (has H i j * (z j * (1 - c j))))
+            ∙ ap (λ (y : ℕ). sum (H .n) (λ j. has H i j * c j) + y) (sum-mul (H .n) 2 (λ j. has H i j * (z j * (1 - c j))))
+
+    -- the parities of all checks
+    pub turned-parities : (p p′ : List ℕ) → Parities H z p → Turned (flips x (H .gamma) z c (H .n)) p p′ → Parities H c p′
+    turned-parities p p′ k t =
+        record {
+          bits = turned-bits (flips x (H .gamma) z c (H .n)) p p′ t;
+          each = λ i h. t .each i ∙ ap (λ (y : ℕ). (y + flips x (H .gamma) z c (H .n) i) % 2) (k .each i h) ∙ turned-fails i h;
+        }
+
+    -- the listed rows are the failing checks
+    pub failing-places : (p p′ : List ℕ) → Parities H z p → Turned (flips x (H .gamma) z c (H .n)) p p′ → (l : List ℕ) (t : ℕ) → Places (at p′) (H .m) l t
+        → Places (fails H c) (H .m) l t
+    failing-places p p′ k u l t = places-cong (at p′) (fails H c) (H .m) l t (turned-parities p p′ k u .each)
+
+-- the parities of a word of zeros
+pub zero-parities : (H : Matrix) → Parities H (at (replicate 1023 0)) (replicate 1023 0)
+unfolding fails
+zero-parities H =
+    record {
+      bits = record { long = length-replicate {A = ℕ} 1023 0; bit = λ i. omega (arith, zeros 1023 i) };
+      each = λ i h. zeros 1023 i ∙ sym (ap (λ (y : ℕ). y % 2) (sum-zero (H .rho) (λ k l. zeros 1023 (entry H i k))));
+    }
+
+-- which is a word
+pub zero-word : (H : Matrix) → Word H (at (replicate 1023 0))
+unfolding Word
+zero-word H j l = omega (arith, zeros 1023 j)

@@ -1,0 +1,2 @@
+-- What the contracts of `running_tally` cite.
+pub mod Parities
