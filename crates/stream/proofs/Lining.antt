@@ -18,8 +18,8 @@ use Rattle.parity_check.specs.Code.{Matrix}
 use Rattle.quantiser.specs.Samples.{Choice, hardBit}
 use Rattle.iterative.specs.Iterative.{endFrom, reportAt, iterativeWord}
 use Rattle.text.specs.Output.{shortText, saidText, blockText}
-use Rattle.text.specs.Putting.{PutWithin}
-use Rattle.text.proofs.Puts.{put-none, put-then, put-as, put-length}
+use Rattle.numerals.specs.Putting.{PutWithin}
+use Rattle.numerals.proofs.Puts.{put-none, put-then, put-as, put-length}
 use Rattle.input.specs.Input.{samplesIn}
 use Rattle.input.specs.Opening.{Decodable}
 use Rattle.stream.specs.Lending.{Answered, Printable, Countable, Held, AtOnce}

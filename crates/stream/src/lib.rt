@@ -17,7 +17,7 @@ ghost use Rattle.answers.specs.Answers.{saidOf};
 ghost use Rattle.parity_check.specs.Check.{sizesFit};
 ghost use Rattle.parity_check.specs.Shapes.{matrixOf};
 ghost use Rattle.quantiser.specs.Settings.{choiceOf};
-ghost use Rattle.text.specs.Putting.{PutWithin};
+ghost use Rattle.numerals.specs.Putting.{PutWithin};
 ghost use Rattle.input.specs.Opening.{Decodable};
 ghost use Rattle.stream.specs.Lending.{Whole, Answered, Printable, Countable, Held, Turnable, AtOnce};
 ghost use Rattle.stream.specs.Program.{blocksIn, blockLine, blockLines, chunkText};

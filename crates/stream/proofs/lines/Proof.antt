@@ -4,7 +4,7 @@ use native.Mathlib.Omega.{arith}
 use lib.ListN.{length}
 use Rattle.parity_check.specs.Shapes.{matrixOf}
 use Rattle.quantiser.specs.Settings.{choiceOf}
-use Rattle.text.proofs.Puts.{put-length}
+use Rattle.numerals.proofs.Puts.{put-length}
 use Rattle.stream.proofs.Lining.{Lined, lined-none, counted, lined-asks, lined-more, lined-all}
 use Rattle.stream.proofs.lines.Statement.{statement}
 use Rattle.stream.proofs.lines.Tie as tie

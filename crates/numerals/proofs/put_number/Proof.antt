@@ -1,10 +1,10 @@
--- `text::put_number` meets its contract: the digits, and the byte after them. Assumes nothing.
+-- `numerals::put_number` meets its contract: the digits, and the byte after them. Assumes nothing.
 use native.Mathlib.Omega.{arith}
 use borrow.Author.Needs.{needs}
-use Rattle.text.proofs.Puts.{put-then, put-length}
-use Rattle.text.proofs.Numerals.{decimal-five, number-ends}
-use Rattle.text.proofs.put_number.Statement.{statement}
-use Rattle.text.proofs.put_number.Tie as tie
+use Rattle.numerals.proofs.Puts.{put-then, put-length}
+use Rattle.numerals.proofs.Numerals.{decimal-five, number-ends}
+use Rattle.numerals.proofs.put_number.Statement.{statement}
+use Rattle.numerals.proofs.put_number.Tie as tie
 
 put-decimal-requires : tie.Need-put-decimal-requires
 put-decimal-requires c κs =

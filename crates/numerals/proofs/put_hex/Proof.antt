@@ -1,4 +1,4 @@
--- `text::put_hex` meets its contract. The invariant: the digits of the first i bytes are put. Assumes nothing.
+-- `numerals::put_hex` meets its contract. The invariant: the digits of the first i bytes are put. Assumes nothing.
 use mathlib.Core.Path.{sym, ap}
 use Prim.Native.Nat.{_-_, _≤_, _<_}
 use native.Mathlib.Numerals.{add-one}
@@ -6,12 +6,12 @@ use native.Mathlib.Omega.{arith}
 use borrow.Author.Needs.{needs}
 use lib.ListN.{length, take}
 use lib.Seq.{take-suc, take-all, length-take-le}
-use Rattle.text.specs.Putting.{Put}
-use Rattle.text.proofs.Puts.{put-none, put-then, put-as, put-length}
-use Rattle.text.specs.Output.{hex}
-use Rattle.text.proofs.Numerals.{hex-append, length-hex}
-use Rattle.text.proofs.put_hex.Statement.{statement}
-use Rattle.text.proofs.put_hex.Tie as tie
+use Rattle.numerals.specs.Putting.{Put}
+use Rattle.numerals.proofs.Puts.{put-none, put-then, put-as, put-length}
+use Rattle.numerals.specs.Numerals.{hex}
+use Rattle.numerals.proofs.Numerals.{hex-append, length-hex}
+use Rattle.numerals.proofs.put_hex.Statement.{statement}
+use Rattle.numerals.proofs.put_hex.Tie as tie
 
 abbrev Inv-loop : tie.InvT-loop
 Inv-loop out₀ at word end₀ i₀ out end i = (i ≤ length word) × Put (hex (take i word)) at out₀ out end

@@ -6,8 +6,8 @@ use native.Mathlib.Decide.{decLt}
 use native.Mathlib.Omega.{arith}
 use lib.ListN.{length, length-append}
 use borrow.Author.Tests.{lt-ltb, le-ltb}
-use Rattle.text.specs.Putting.{Put}
-use Rattle.text.specs.Output.{digit, digitsWithin, decimal, hex}
+use Rattle.numerals.specs.Putting.{Put}
+use Rattle.numerals.specs.Numerals.{digit, digitsWithin, decimal, hex}
 
 -- ---- decimal digits
 

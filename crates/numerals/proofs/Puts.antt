@@ -7,7 +7,7 @@ use native.Mathlib.Omega.{arith}
 use lib.ListN.{length, length-append}
 use lib.Seq.{sets, length-sets}
 use Rattle.counting.proofs.Stores.{sets-append}
-use Rattle.text.specs.Putting.{Put}
+use Rattle.numerals.specs.Putting.{Put}
 
 -- no text
 pub put-none : (at : ℕ) (out : List ℕ) → Put [] at out out at

@@ -1,4 +1,4 @@
--- `text::put_text` meets its contract. The invariant: the first i bytes of the text are put. Assumes nothing.
+-- `numerals::put_text` meets its contract. The invariant: the first i bytes of the text are put. Assumes nothing.
 use mathlib.Core.Path.{sym}
 use Prim.Native.Nat.{_-_, _≤_, _<_}
 use native.Mathlib.Numerals.{add-one}
@@ -6,10 +6,10 @@ use native.Mathlib.Omega.{arith}
 use borrow.Author.Needs.{needs}
 use lib.ListN.{length, take}
 use lib.Seq.{take-suc, take-all, length-take-le}
-use Rattle.text.specs.Putting.{Put}
-use Rattle.text.proofs.Puts.{put-none, put-then, put-as, put-length}
-use Rattle.text.proofs.put_text.Statement.{statement}
-use Rattle.text.proofs.put_text.Tie as tie
+use Rattle.numerals.specs.Putting.{Put}
+use Rattle.numerals.proofs.Puts.{put-none, put-then, put-as, put-length}
+use Rattle.numerals.proofs.put_text.Statement.{statement}
+use Rattle.numerals.proofs.put_text.Tie as tie
 
 abbrev Inv-loop : tie.InvT-loop
 Inv-loop out₀ at text end₀ i₀ out end i = (i ≤ length text) × Put (take i text) at out₀ out end

@@ -1,9 +1,9 @@
--- `text::digit` meets its contract: the test is the definition's. Assumes nothing.
+-- `numerals::digit` meets its contract: the test is the definition's. Assumes nothing.
 use borrow.Author.Tests.{lt-ltb, le-ltb}
 use borrow.Author.Needs.{needs}
-use Rattle.text.specs.Output.{digit}
-use Rattle.text.proofs.digit.Statement.{statement}
-use Rattle.text.proofs.digit.Tie as tie
+use Rattle.numerals.specs.Numerals.{digit}
+use Rattle.numerals.proofs.digit.Statement.{statement}
+use Rattle.numerals.proofs.digit.Tie as tie
 
 add-result : tie.Need-add-result
 add-result c = search needs

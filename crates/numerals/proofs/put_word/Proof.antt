@@ -1,10 +1,10 @@
--- `text::put_word` meets its contract: the digits, and the line's end. Assumes nothing.
+-- `numerals::put_word` meets its contract: the digits, and the line's end. Assumes nothing.
 use native.Mathlib.Omega.{arith}
 use borrow.Author.Needs.{needs}
-use Rattle.text.proofs.Puts.{put-then}
-use Rattle.text.proofs.Numerals.{length-hex}
-use Rattle.text.proofs.put_word.Statement.{statement}
-use Rattle.text.proofs.put_word.Tie as tie
+use Rattle.numerals.proofs.Puts.{put-then}
+use Rattle.numerals.proofs.Numerals.{length-hex}
+use Rattle.numerals.proofs.put_word.Statement.{statement}
+use Rattle.numerals.proofs.put_word.Tie as tie
 
 put-hex-requires : tie.Need-put-hex-requires
 put-hex-requires c κs = omega (arith, length-hex (c .before .before .before .args .word .now))

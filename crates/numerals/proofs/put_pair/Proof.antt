@@ -1,12 +1,12 @@
--- `text::put_pair` meets its contract: one digit after the other. Assumes nothing.
+-- `numerals::put_pair` meets its contract: one digit after the other. Assumes nothing.
 use mathlib.Core.Path.{ap₂}
 use mathlib.Core.List.{[], _∷_}
 use Prim.Native.Nat.{ℕ}
 use borrow.Author.Needs.{needs}
-use Rattle.text.specs.Output.{hex}
-use Rattle.text.proofs.Puts.{put-as, put-then}
-use Rattle.text.proofs.put_pair.Statement.{statement}
-use Rattle.text.proofs.put_pair.Tie as tie
+use Rattle.numerals.specs.Numerals.{hex}
+use Rattle.numerals.proofs.Puts.{put-as, put-then}
+use Rattle.numerals.proofs.put_pair.Statement.{statement}
+use Rattle.numerals.proofs.put_pair.Tie as tie
 
 digit-requires : tie.Need-digit-requires
 digit-requires c κs = search needs

@@ -6,15 +6,15 @@ use native.Mathlib.Omega.{arith}
 use borrow.Fn.Kinds.{In}
 use borrow.Fn.PlainCycle.{Measures, is, falls, and}
 use lib.ListN.{length}
-use Rattle.text.proofs.Numerals.{decimal-one, decimal-more, length-decimal-more}
-use Rattle.text.proofs.Puts.{put-then, put-as, put-length}
-use Rattle.text.specs.Output.{digit}
-use Rattle.text.proofs.put_decimal.Reads as put-decimal
-use Rattle.text.proofs.put_decimal.Kinds as put-decimal-kinds
-use Rattle.text.proofs.+put_decimal.Lts-put_decimal as put-decimal-lts
-use Rattle.text.proofs.put_last.Reads as put-last-reads
-use Rattle.text.proofs.+put_decimal.{statement}
-use Rattle.text.proofs.+put_decimal.Tie.{close}
+use Rattle.numerals.proofs.Numerals.{decimal-one, decimal-more, length-decimal-more}
+use Rattle.numerals.proofs.Puts.{put-then, put-as, put-length}
+use Rattle.numerals.specs.Numerals.{digit}
+use Rattle.numerals.proofs.put_decimal.Reads as put-decimal
+use Rattle.numerals.proofs.put_decimal.Kinds as put-decimal-kinds
+use Rattle.numerals.proofs.+put_decimal.Lts-put_decimal as put-decimal-lts
+use Rattle.numerals.proofs.put_last.Reads as put-last-reads
+use Rattle.numerals.proofs.+put_decimal.{statement}
+use Rattle.numerals.proofs.+put_decimal.Tie.{close}
 
 abbrev μ-put-decimal : Measures 1 put-decimal-kinds.ps ℕ
 μ-put-decimal κs a = a .1 .1 .0

@@ -1,11 +1,11 @@
--- `text::put_last` meets its contract. Assumes nothing.
+-- `numerals::put_last` meets its contract. Assumes nothing.
 use mathlib.Core.Path.{ap}
 use mathlib.Core.List.{[], _∷_}
 use Prim.Native.Nat.{ℕ}
 use borrow.Author.Needs.{needs}
-use Rattle.text.proofs.Puts.{put-as}
-use Rattle.text.proofs.put_last.Statement.{statement}
-use Rattle.text.proofs.put_last.Tie as tie
+use Rattle.numerals.proofs.Puts.{put-as}
+use Rattle.numerals.proofs.put_last.Statement.{statement}
+use Rattle.numerals.proofs.put_last.Tie as tie
 
 cast-digit : tie.Need-cast-digit
 cast-digit c = search needs
