@@ -24,7 +24,8 @@ use Rattle.numerals.specs.Numerals.{ascii, digit, digitsWithin, decimal, hex}
 use Rattle.text.specs.Output.{line, heading, shortText, refusedText, saidText, blockText}
 use Rattle.input.specs.Input.{number16, number32, float, matrixIn, entryIn, entriesIn, choiceIn, sampleIn, samplesIn}
 use Rattle.input.specs.Opening.{settingVerdict, openingVerdict}
-use Rattle.stream.specs.Program.{blockVerdict, blockSaid, blockLine, blockAt, blockLines, chunkText, blocksText, restText, sizedText, printed}
+use Rattle.block_lines.specs.Blocks.{blockVerdict, blockSaid, blockLine, blockAt, blockLines, chunkText}
+use Rattle.stream.specs.Program.{blocksText, restText, sizedText, printed}
 
 unfoldable pub low16 : List ℕ → List ℕ
 low16 [] = []

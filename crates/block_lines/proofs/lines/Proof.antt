@@ -1,13 +1,13 @@
--- `stream::lines` meets its contract. The invariant: the lines of the first k blocks are put, and block k begins at `from`. Assumes nothing.
+-- `block_lines::lines` meets its contract. The invariant: the lines of the first k blocks are put, and block k begins at `from`. Assumes nothing.
 use Prim.Native.Nat.{_-_}
 use native.Mathlib.Omega.{arith}
 use lib.ListN.{length}
 use Rattle.parity_check.specs.Shapes.{matrixOf}
 use Rattle.quantiser.specs.Settings.{choiceOf}
 use Rattle.numerals.proofs.Puts.{put-length}
-use Rattle.stream.proofs.Lining.{Lined, lined-none, counted, lined-asks, lined-more, lined-all}
-use Rattle.stream.proofs.lines.Statement.{statement}
-use Rattle.stream.proofs.lines.Tie as tie
+use Rattle.block_lines.proofs.Lining.{Lined, lined-none, counted, lined-asks, lined-more, lined-all}
+use Rattle.block_lines.proofs.lines.Statement.{statement}
+use Rattle.block_lines.proofs.lines.Tie as tie
 
 abbrev Inv-loop : tie.InvT-loop
 Inv-loop shape list setting number bytes out₀ at size k₀ from₀ end₀ out k from end = Lined (matrixOf shape list) (choiceOf setting) number bytes at out₀ k from out end

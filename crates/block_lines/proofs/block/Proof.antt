@@ -1,12 +1,12 @@
--- `stream::block` meets its contract: the line of the answer and the word. Assumes nothing.
+-- `block_lines::block` meets its contract: the line of the answer and the word. Assumes nothing.
 use native.Mathlib.Omega.{arith}
 use borrow.Author.Needs.{needs}
 use lib.ListN.{length-take}
 use Rattle.parity_check.specs.Shapes.{matrixOf}
 use Rattle.quantiser.specs.Settings.{choiceOf}
-use Rattle.stream.proofs.Lining.{line-put}
-use Rattle.stream.proofs.block.Statement.{statement}
-use Rattle.stream.proofs.block.Tie as tie
+use Rattle.block_lines.proofs.Lining.{line-put}
+use Rattle.block_lines.proofs.block.Statement.{statement}
+use Rattle.block_lines.proofs.block.Tie as tie
 
 cast-n : tie.Need-cast-n
 cast-n c = search needs

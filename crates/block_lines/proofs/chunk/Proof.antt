@@ -1,10 +1,10 @@
--- `stream::chunk` meets its contract: the lines, and `short` unless the bytes end with a block. Assumes nothing.
+-- `block_lines::chunk` meets its contract: the lines, and `short` unless the bytes end with a block. Assumes nothing.
 use borrow.Author.Needs.{needs}
 use Rattle.parity_check.specs.Shapes.{matrixOf}
 use Rattle.quantiser.specs.Settings.{choiceOf}
-use Rattle.stream.proofs.Lining.{chunk-whole, chunk-cut}
-use Rattle.stream.proofs.chunk.Statement.{statement}
-use Rattle.stream.proofs.chunk.Tie as tie
+use Rattle.block_lines.proofs.Lining.{chunk-whole, chunk-cut}
+use Rattle.block_lines.proofs.chunk.Statement.{statement}
+use Rattle.block_lines.proofs.chunk.Tie as tie
 
 cast-size : tie.Need-cast-size
 cast-size c = search needs
