@@ -1,3 +1,2 @@
-pub mod Answering
-pub mod Lining
+pub mod Reading
 pub mod Pieces

@@ -12,7 +12,8 @@ use lib.ListN.{length, take, drop, length-drop}
 use lib.Seq.{take-take, drop-drop, take-all, length-take-le}
 use Rattle.parity_check.specs.Code.{Matrix}
 use Rattle.quantiser.specs.Samples.{Choice}
-use Rattle.stream.specs.Program.{blocksIn, blockAt, blockLines, chunkText, blocksText}
+use Rattle.block_lines.specs.Blocks.{blocksIn, blockAt, blockLines, chunkText}
+use Rattle.stream.specs.Program.{blocksText}
 use Rattle.stream.specs.Turns.{turnsText, Turning}
 
 -- ---- parts of a list

@@ -20,10 +20,12 @@ use Rattle.parity_check.specs.Check.{sizesFit, badEntry, badWeight, overlapping
 use Rattle.quantiser.specs.Samples.{stepFits, settingFits, nearest, magnitude, levelOf, hardOf, hardBit, notFinite}
 use Rattle.iterative.specs.Rounds.{others, extrinsic, levelAfter, roundOf, endOf}
 use Rattle.iterative.specs.Iterative.{startOf, changedBits, endFrom, reportAt, iterativeWord}
-use Rattle.text.specs.Output.{ascii, digit, digitsWithin, decimal, hex, line, heading, shortText, refusedText, saidText, blockText}
+use Rattle.numerals.specs.Numerals.{ascii, digit, digitsWithin, decimal, hex}
+use Rattle.text.specs.Output.{line, heading, shortText, refusedText, saidText, blockText}
 use Rattle.input.specs.Input.{number16, number32, float, matrixIn, entryIn, entriesIn, choiceIn, sampleIn, samplesIn}
 use Rattle.input.specs.Opening.{settingVerdict, openingVerdict}
-use Rattle.stream.specs.Program.{blockVerdict, blockSaid, blockLine, blockAt, blockLines, chunkText, blocksText, restText, sizedText, printed}
+use Rattle.block_lines.specs.Blocks.{blockVerdict, blockSaid, blockLine, blockAt, blockLines, chunkText}
+use Rattle.stream.specs.Program.{blocksText, restText, sizedText, printed}
 
 unfoldable pub low16 : List ℕ → List ℕ
 low16 [] = []

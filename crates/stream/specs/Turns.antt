@@ -9,7 +9,7 @@ use lib.Dec.{ltb, leb}
 use lib.ListN.{length, take, drop}
 use Rattle.parity_check.specs.Code.{Matrix}
 use Rattle.quantiser.specs.Samples.{Choice}
-use Rattle.stream.specs.Program.{chunkText}
+use Rattle.block_lines.specs.Blocks.{chunkText}
 
 -- the run ends where a turn finds less than it wants, and at the 65,535th block
 unfoldable pub turnsText : Matrix → Choice → (ℕ → ℕ) → ℕ → ℕ → List ℕ → List ℕ

@@ -1,109 +1,22 @@
-// The program: blocks decoded to lines as functions on slices, and the run over standard input and output.
-// Rests on `input`, `iterative` and `text`; `io` and `libc` read and write, and their contracts say nothing of the bytes.
+// The program: the run over standard input and output.
+// Rests on `block_lines`, `input` and `text`; `io` and `libc` read and write, and their contracts say nothing of the bytes.
 // Document 01: "Worked by hand", the paragraph on the program.
-use answers::Answer;
 use answers::Refusal;
 use input::Opened;
 use libc::STDIN_FILENO;
 use libc::STDOUT_FILENO;
 use parity_check::Shape;
 use quantiser::Setting;
-ghost use Prim.Native.Nat.{min, _+_, _*_, _≤_, _<_};
+ghost use Prim.Native.Nat.{min, _≤_, _<_};
 ghost use mathlib.Core.Path.{_≡_};
 ghost use mathlib.Core.Bool.{true};
 ghost use mathlib.Core.List.{[]};
 ghost use lib.ListN.{length};
-ghost use Rattle.answers.specs.Answers.{saidOf};
 ghost use Rattle.parity_check.specs.Check.{sizesFit};
 ghost use Rattle.parity_check.specs.Shapes.{matrixOf};
 ghost use Rattle.quantiser.specs.Settings.{choiceOf};
-ghost use Rattle.text.specs.Putting.{PutWithin};
 ghost use Rattle.input.specs.Opening.{Decodable};
-ghost use Rattle.stream.specs.Lending.{Whole, Answered, Printable, Countable, Held, Turnable, AtOnce};
-ghost use Rattle.stream.specs.Program.{blocksIn, blockLine, blockLines, chunkText};
-
-// The answer of a block, and its word at the front of `word`.
-pub fn decode(shape: Shape, list: &[u16], setting: Setting, bytes: &[u8], word: &mut [u8]) -> Answer
-    requires { ⌜ Whole (matrixOf shape (now list)) (choiceOf setting) (now bytes) (now word) ⌝ }
-    ensures { λ r. ⌜ Answered (matrixOf shape (now (list .entry))) (choiceOf setting) (now (bytes .entry)) (saidOf r) (now (word .entry)) (now (word .exit)) ⌝ }
-{
-    let n = shape.n as usize;
-    let mut xs = [0f32; 1023];
-    let place = input::samples(bytes, &mut xs);
-    if place < n {
-        return Answer::Refused(Refusal::Sample(place as u16));
-    }
-    let mut levels = [0i8; 1023];
-    let report = iterative::iterative_accepted(shape, list, setting, &xs[..n], word, &mut levels);
-    Answer::Done(report)
-}
-
-// The line of one block.
-pub fn block(
-    shape: Shape,
-    list: &[u16],
-    setting: Setting,
-    number: u16,
-    bytes: &[u8],
-    out: &mut [u8],
-    at: usize,
-) -> usize
-    requires { ⌜ Printable (matrixOf shape (now list)) (choiceOf setting) (now bytes) at (now out) ⌝ }
-    ensures { λ r. ⌜ PutWithin 289 (blockLine (matrixOf shape (now (list .entry))) (choiceOf setting) number (now (bytes .entry))) at (now (out .entry)) (now (out .exit)) r ⌝ }
-{
-    let n = shape.n as usize;
-    let mut word = [0u8; 128];
-    let answer = decode(shape, list, setting, bytes, &mut word);
-    let size = (n + 7) / 8;
-    text::put_block(out, at, number, answer, &word[..size])
-}
-
-// The lines of the whole blocks that the bytes begin with, numbered from `number`.
-fn lines(
-    shape: Shape,
-    list: &[u16],
-    setting: Setting,
-    number: u16,
-    bytes: &[u8],
-    out: &mut [u8],
-    at: usize,
-) -> usize
-    requires { ⌜ Countable (matrixOf shape (now list)) (choiceOf setting) number (now bytes) at (now out) ⌝ }
-    ensures { λ r. ⌜ PutWithin (289 * blocksIn (matrixOf shape (now (list .entry))) (now (bytes .entry))) (blockLines (matrixOf shape (now (list .entry))) (choiceOf setting) number (blocksIn (matrixOf shape (now (list .entry))) (now (bytes .entry))) (now (bytes .entry))) at (now (out .entry)) (now (out .exit)) r ⌝ }
-{
-    let size = 4 * (shape.n as usize);
-    let mut k: u16 = 0;
-    let mut from = 0;
-    let mut end = at;
-    while size <= bytes.len() - from {
-        let to = from + size;
-        end = block(shape, list, setting, number + k, &bytes[from..to], out, end);
-        from = to;
-        k += 1;
-    }
-    end
-}
-
-// The lines of the blocks, and `short` where the bytes end inside a block.
-pub fn chunk(
-    shape: Shape,
-    list: &[u16],
-    setting: Setting,
-    number: u16,
-    bytes: &[u8],
-    out: &mut [u8],
-    at: usize,
-) -> usize
-    requires { ⌜ Countable (matrixOf shape (now list)) (choiceOf setting) number (now bytes) at (now out) ⌝ }
-    ensures { λ r. ⌜ PutWithin (289 * blocksIn (matrixOf shape (now (list .entry))) (now (bytes .entry)) + 6) (chunkText (matrixOf shape (now (list .entry))) (choiceOf setting) number (now (bytes .entry))) at (now (out .entry)) (now (out .exit)) r ⌝ }
-{
-    let size = 4 * (shape.n as usize);
-    let end = lines(shape, list, setting, number, bytes, out, at);
-    if bytes.len() % size == 0 {
-        return end;
-    }
-    text::put_short(out, end)
-}
+ghost use Rattle.stream.specs.Lending.{Held, Turnable, AtOnce};
 
 // How many blocks are read at once: what fits the input buffer, at most 200, whose lines fit the output buffer,
 // and no more than are left of 65,535.
@@ -154,7 +67,7 @@ fn turn(
     let count = at_once(n, number);
     let want = count * (4 * n);
     let got = read(input, want);
-    let end = chunk(shape, list, setting, number, &input[..got], out, at);
+    let end = block_lines::chunk(shape, list, setting, number, &input[..got], out, at);
     print(out, end);
     if got < want {
         return 65535;

@@ -1,43 +1,15 @@
 -- What the program prints. (Document 01, "Worked by hand": the paragraph on the program.)
---   ascii s             == the bytes of a quoted text
---   decimal x           == the decimal digits of x, the most significant first, without leading zeros
---   hex w               == two lower-case hexadecimal digits for each byte of w
 --   line ws             == the words ws one space apart, and the line's end
 --   heading, shortText  == the first line, and the last where the input ends too early
 --   refusedText k x     == the line of a refusal that ends the run: its number and its place
+--   outcomeText o       == the word of an outcome
 --   saidText s w        == what a block's line says after its number: s, and the word w where s is a report
 --   blockText i s w     == the line of block i
 -- Assumes nothing.
-use Prim.Native.Nat.{ℕ, zero, suc, _+_, _/_, _%_}
-use Prim.Native.Char.{code}
-use Prim.Native.String as string
-use mathlib.Core.Bool.{cond}
+use Prim.Native.Nat.{ℕ, zero, suc}
 use mathlib.Core.List.{List, [], _∷_, _++_}
-use lib.Dec.{ltb}
 use Rattle.answers.specs.Paper.{Said, refusal, report}
-
--- the bytes of a quoted text
-abbrev pub ascii : string.String → List ℕ
-ascii string.[] = []
-ascii (string._∷_ c s) = code c ∷ ascii s
-
--- the digit of a number below 16: 0 to 9, then a to f
-unfoldable pub digit : ℕ → ℕ
-digit d = cond (ltb d 10) (48 + d) (87 + d)
-
--- the decimal digits of x, of which there are at most k + 1
-unfoldable pub digitsWithin : ℕ → ℕ → List ℕ
-digitsWithin zero x = digit x ∷ []
-digitsWithin (suc k) x = cond (ltb x 10) (digit x ∷ []) (digitsWithin k (x / 10) ++ (digit (x % 10) ∷ []))
-
--- "numbers are decimal"; a number x has at most x + 1 digits
-unfoldable pub decimal : ℕ → List ℕ
-decimal x = digitsWithin x x
-
--- "word in lower-case hexadecimal without gaps"
-unfoldable pub hex : List ℕ → List ℕ
-hex [] = []
-hex (b ∷ w) = digit (b / 16) ∷ digit (b % 16) ∷ hex w
+use Rattle.numerals.specs.Numerals.{ascii, decimal, hex}
 
 -- "fields one space apart"
 unfoldable pub line : List (List ℕ) → List ℕ

@@ -3,7 +3,7 @@ use mathlib.Core.Path.{ap, sym, _∙_, subst}
 use Prim.Native.Nat.{ℕ, min, _-_}
 use borrow.Author.Needs.{needs}
 use Rattle.stream.specs.Lending.{AtOnce}
-use Rattle.stream.proofs.Lining.{at-once}
+use Rattle.stream.proofs.Reading.{at-once}
 use Rattle.stream.proofs.at_once.Statement.{statement}
 use Rattle.stream.proofs.at_once.Tie as tie
 

@@ -5,7 +5,8 @@ use borrow.Author.Needs.{needs}
 use lib.ListN.{length, take, length-take}
 use Rattle.parity_check.specs.Shapes.{matrixOf}
 use Rattle.quantiser.specs.Settings.{choiceOf}
-use Rattle.stream.proofs.Lining.{chunk-ends, countable}
+use Rattle.block_lines.proofs.Lining.{chunk-ends}
+use Rattle.stream.proofs.Reading.{countable}
 use Rattle.stream.proofs.turn.Statement.{statement}
 use Rattle.stream.proofs.turn.Tie as tie
 

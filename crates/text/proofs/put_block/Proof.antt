@@ -5,7 +5,7 @@ use borrow.Author.Needs.{needs}
 use Rattle.answers.specs.declared.Answer.{Answer}
 use Rattle.answers.specs.Answers.{saidOf}
 use Rattle.text.specs.Output.{saidText, blockText}
-use Rattle.text.proofs.Puts.{put-then, put-as}
+use Rattle.numerals.proofs.Puts.{put-then, put-as}
 use Rattle.text.proofs.put_block.Statement.{statement}
 use Rattle.text.proofs.put_block.Tie as tie
 

@@ -5,8 +5,9 @@ use native.Mathlib.Omega.{arith}
 use borrow.Author.Needs.{needs}
 use Rattle.answers.specs.declared.Outcome.{Outcome}
 use Rattle.answers.specs.Answers.{outcomeOf}
-use Rattle.text.specs.Output.{ascii, outcomeText}
-use Rattle.text.proofs.Puts.{put-as}
+use Rattle.numerals.specs.Numerals.{ascii}
+use Rattle.text.specs.Output.{outcomeText}
+use Rattle.numerals.proofs.Puts.{put-as}
 use Rattle.text.proofs.put_outcome.Statement.{statement}
 use Rattle.text.proofs.put_outcome.Tie as tie
 

@@ -3,7 +3,7 @@ use mathlib.Core.Path.{ap₂}
 use native.Mathlib.Omega.{arith}
 use borrow.Author.Needs.{needs}
 use Rattle.text.specs.Output.{line, refusedText}
-use Rattle.text.proofs.Puts.{put-then, put-as}
+use Rattle.numerals.proofs.Puts.{put-then, put-as}
 use Rattle.text.proofs.put_refused.Statement.{statement}
 use Rattle.text.proofs.put_refused.Tie as tie
 

@@ -2,7 +2,7 @@
 use native.Mathlib.Omega.{arith}
 use borrow.Author.Needs.{needs}
 use Rattle.text.specs.Output.{line, saidText}
-use Rattle.text.proofs.Puts.{put-then}
+use Rattle.numerals.proofs.Puts.{put-then}
 use Rattle.text.proofs.put_report.Statement.{statement}
 use Rattle.text.proofs.put_report.Tie as tie
 

@@ -1,0 +1,3 @@
+-- What the contracts of `block_lines` cite.
+pub mod Blocks
+pub mod Lending

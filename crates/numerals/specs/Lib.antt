@@ -1,0 +1,3 @@
+-- What the contracts of `numerals` cite.
+pub mod Numerals
+pub mod Putting
