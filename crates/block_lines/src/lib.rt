@@ -9,12 +9,20 @@ ghost use Rattle.answers.specs.Answers.{saidOf};
 ghost use Rattle.parity_check.specs.Shapes.{matrixOf};
 ghost use Rattle.quantiser.specs.Settings.{choiceOf};
 ghost use Rattle.numerals.specs.Putting.{PutWithin};
+ghost use Rattle.column_index.specs.Index.{Indexed};
 ghost use Rattle.block_lines.specs.Lending.{Whole, Answered, Printable, Countable};
 ghost use Rattle.block_lines.specs.Blocks.{blocksIn, blockLine, blockLines, chunkText};
 
 // The answer of a block, and its word at the front of `word`. Only this repository's crates call it, after asking refusals 1 to 6.
-pub fn decode(shape: Shape, list: &[u16], setting: Setting, bytes: &[u8], word: &mut [u8]) -> Answer
-    requires { ⌜ Whole (matrixOf shape (now list)) (choiceOf setting) (now bytes) (now word) ⌝ }
+pub fn decode(
+    shape: Shape,
+    list: &[u16],
+    index: &[u16],
+    setting: Setting,
+    bytes: &[u8],
+    word: &mut [u8],
+) -> Answer
+    requires { ⌜ Whole (matrixOf shape (now list)) (choiceOf setting) (now bytes) (now word) × Indexed (matrixOf shape (now list)) (now index) ⌝ }
     ensures { λ r. ⌜ Answered (matrixOf shape (now (list .entry))) (choiceOf setting) (now (bytes .entry)) (saidOf r) (now (word .entry)) (now (word .exit)) ⌝ }
 {
     let n = shape.n as usize;
@@ -24,7 +32,15 @@ pub fn decode(shape: Shape, list: &[u16], setting: Setting, bytes: &[u8], word: 
         return Answer::Refused(Refusal::Sample(place as u16));
     }
     let mut levels = [0i8; 1023];
-    let report = iterative::iterative_accepted(shape, list, setting, &xs[..n], word, &mut levels);
+    let report = iterative::iterative_accepted(
+        shape,
+        list,
+        index,
+        setting,
+        &xs[..n],
+        word,
+        &mut levels,
+    );
     Answer::Done(report)
 }
 
@@ -32,24 +48,61 @@ pub fn decode(shape: Shape, list: &[u16], setting: Setting, bytes: &[u8], word: 
 pub fn block(
     shape: Shape,
     list: &[u16],
+    index: &[u16],
     setting: Setting,
     number: u16,
     bytes: &[u8],
     out: &mut [u8],
     at: usize,
 ) -> usize
-    requires { ⌜ Printable (matrixOf shape (now list)) (choiceOf setting) (now bytes) at (now out) ⌝ }
+    requires { ⌜ Printable (matrixOf shape (now list)) (choiceOf setting) (now bytes) at (now out) × Indexed (matrixOf shape (now list)) (now index) ⌝ }
     ensures { λ r. ⌜ PutWithin 289 (blockLine (matrixOf shape (now (list .entry))) (choiceOf setting) number (now (bytes .entry))) at (now (out .entry)) (now (out .exit)) r ⌝ }
 {
     let n = shape.n as usize;
     let mut word = [0u8; 128];
-    let answer = decode(shape, list, setting, bytes, &mut word);
+    let answer = decode(shape, list, index, setting, bytes, &mut word);
     let size = (n + 7) / 8;
     text::put_block(out, at, number, answer, &word[..size])
 }
 
 // The lines of the whole blocks that the bytes begin with, numbered from `number`.
 fn lines(
+    shape: Shape,
+    list: &[u16],
+    index: &[u16],
+    setting: Setting,
+    number: u16,
+    bytes: &[u8],
+    out: &mut [u8],
+    at: usize,
+) -> usize
+    requires { ⌜ Countable (matrixOf shape (now list)) (choiceOf setting) number (now bytes) at (now out) × Indexed (matrixOf shape (now list)) (now index) ⌝ }
+    ensures { λ r. ⌜ PutWithin (289 * blocksIn (matrixOf shape (now (list .entry))) (now (bytes .entry))) (blockLines (matrixOf shape (now (list .entry))) (choiceOf setting) number (blocksIn (matrixOf shape (now (list .entry))) (now (bytes .entry))) (now (bytes .entry))) at (now (out .entry)) (now (out .exit)) r ⌝ }
+{
+    let size = 4 * (shape.n as usize);
+    let mut k: u16 = 0;
+    let mut from = 0;
+    let mut end = at;
+    while size <= bytes.len() - from {
+        let to = from + size;
+        end = block(
+            shape,
+            list,
+            index,
+            setting,
+            number + k,
+            &bytes[from..to],
+            out,
+            end,
+        );
+        from = to;
+        k += 1;
+    }
+    end
+}
+
+// The same, with an index made once for all these blocks.
+fn all_lines(
     shape: Shape,
     list: &[u16],
     setting: Setting,
@@ -61,17 +114,9 @@ fn lines(
     requires { ⌜ Countable (matrixOf shape (now list)) (choiceOf setting) number (now bytes) at (now out) ⌝ }
     ensures { λ r. ⌜ PutWithin (289 * blocksIn (matrixOf shape (now (list .entry))) (now (bytes .entry))) (blockLines (matrixOf shape (now (list .entry))) (choiceOf setting) number (blocksIn (matrixOf shape (now (list .entry))) (now (bytes .entry))) (now (bytes .entry))) at (now (out .entry)) (now (out .exit)) r ⌝ }
 {
-    let size = 4 * (shape.n as usize);
-    let mut k: u16 = 0;
-    let mut from = 0;
-    let mut end = at;
-    while size <= bytes.len() - from {
-        let to = from + size;
-        end = block(shape, list, setting, number + k, &bytes[from..to], out, end);
-        from = to;
-        k += 1;
-    }
-    end
+    let mut index = [0u16; 32736];
+    column_index::build(shape, list, &mut index);
+    lines(shape, list, &index, setting, number, bytes, out, at)
 }
 
 // The lines of the blocks, and `short` where the bytes end inside a block.
@@ -89,7 +134,7 @@ pub fn chunk(
     ensures { λ r. ⌜ PutWithin (289 * blocksIn (matrixOf shape (now (list .entry))) (now (bytes .entry)) + 6) (chunkText (matrixOf shape (now (list .entry))) (choiceOf setting) number (now (bytes .entry))) at (now (out .entry)) (now (out .exit)) r ⌝ }
 {
     let size = 4 * (shape.n as usize);
-    let end = lines(shape, list, setting, number, bytes, out, at);
+    let end = all_lines(shape, list, setting, number, bytes, out, at);
     if bytes.len() % size == 0 {
         return end;
     }

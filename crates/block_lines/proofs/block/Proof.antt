@@ -15,7 +15,9 @@ slice-aggregate-decode : tie.Need-slice-aggregate-decode
 slice-aggregate-decode c = search needs
 
 decode-requires : tie.Need-decode-requires
-decode-requires c κs = search needs
+decode-requires c κs =
+    let s = c .before .before .before .before .before .before in
+    (record { decodable = s .pre .0 .decodable; bytes = s .pre .0 .bytes; room = omega (arith, s .pre .0 .decodable .matrix .sizes .n-most) }, s .pre .1)
 
 add-size : tie.Need-add-size
 add-size c = search needs
@@ -36,9 +38,9 @@ returns : tie.Need-returns
 returns c =
     let p = c .before .before in
     let d = p .before .before .before .before in
-    let s = d .before .before .before .before .before .before in
+    let s = d .before .before .before .before .before .before .before in
     line-put (matrixOf (s .args .shape) (s .args .list .now)) (choiceOf (s .args .setting)) (s .args .number) (s .args .bytes .now)
-    (s .pre .decodable .matrix .sizes .n-most) (d .decode .ensures) (p .put-block .ensures)
+    (s .pre .0 .decodable .matrix .sizes .n-most) (d .decode .ensures) (p .put-block .ensures)
 
 pub block-spec : {M : Type 1} → statement M
 block-spec =

@@ -12,8 +12,8 @@ cast-size c = search needs
 mul-size : tie.Need-mul-size
 mul-size c = search needs
 
-lines-requires : tie.Need-lines-requires
-lines-requires c κs = search needs
+all-lines-requires : tie.Need-all-lines-requires
+all-lines-requires c κs = search needs
 
 rem-if1 : tie.Need-rem-if1
 rem-if1 c = search needs
@@ -26,7 +26,7 @@ returns c =
     let p = c .before .before .before in
     let s = p .before .before .before .before .before .before in
     chunk-whole (matrixOf (s .args .shape) (s .args .list .now)) (choiceOf (s .args .setting)) (s .args .number) (s .args .bytes .now) (s .args .at) (s .args .out .now)
-    (c .if1 .taken) (p .lines .ensures)
+    (c .if1 .taken) (p .all-lines .ensures)
 
 put-short-requires : tie.Need-put-short-requires
 put-short-requires c κs = search needs
@@ -40,7 +40,7 @@ returns-2 c =
     let p = q .before .before .before .before .before in
     let s = p .before .before .before .before .before .before in
     chunk-cut (matrixOf (s .args .shape) (s .args .list .now)) (choiceOf (s .args .setting)) (s .args .number) (s .args .bytes .now) (s .args .at) (s .args .out .now)
-    (q .before .before .if1 .left) (p .lines .ensures) (q .put-short .ensures)
+    (q .before .before .if1 .left) (p .all-lines .ensures) (q .put-short .ensures)
 
 pub chunk-spec : {M : Type 1} → statement M
 chunk-spec =
@@ -48,7 +48,7 @@ chunk-spec =
     (tie.spec
     cast-size
     mul-size
-    lines-requires
+    all-lines-requires
     rem-if1
     same-length
     returns

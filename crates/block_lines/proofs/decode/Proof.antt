@@ -18,15 +18,15 @@ slice-aggregate-samples c = search needs
 samples-requires : tie.Need-samples-requires
 samples-requires c κs = search needs
 
-cast-t14 : tie.Need-cast-t14
-cast-t14 c = search needs
+cast-t15 : tie.Need-cast-t15
+cast-t15 c = search needs
 
 returns : tie.Need-returns
 returns c =
     let p = c .before .before in
-    let s = p .before .before .before .before .before .before in
+    let s = p .before .before .before .before .before .before .before in
     answered-refused (matrixOf (s .args .shape) (s .args .list .now)) (choiceOf (s .args .setting)) (s .args .bytes .now) (p .samples .result) (s .args .word .now)
-    (block-refuses (s .args .shape .n) (s .args .bytes .now) (s .pre .bytes) (p .samples .result) (p .samples .ensures .place) (c .if1 .taken))
+    (block-refuses (s .args .shape .n) (s .args .bytes .now) (s .pre .0 .bytes) (p .samples .result) (p .samples .ensures .place) (c .if1 .taken))
 
 array-share-prefix-xs : tie.Need-array-share-prefix-xs
 array-share-prefix-xs c = search needs
@@ -34,9 +34,9 @@ array-share-prefix-xs c = search needs
 slice-aggregate-iterative-accepted : tie.Need-slice-aggregate-iterative-accepted
 slice-aggregate-iterative-accepted c =
     let p = c .before .before .before in
-    let s = p .before .before .before .before .before .before in
+    let s = p .before .before .before .before .before .before .before in
     let n = s .args .shape .n in
-    sym (ap length (all-written n (s .args .bytes .now) (s .pre .bytes) (p .samples .result) (p .samples .ensures) (c .before .if1 .left)) ∙ samples-n n (s .args .bytes .now) (s .pre .bytes))
+    sym (ap length (all-written n (s .args .bytes .now) (s .pre .0 .bytes) (p .samples .result) (p .samples .ensures) (c .before .if1 .left)) ∙ samples-n n (s .args .bytes .now) (s .pre .0 .bytes))
 
 slice-aggregate-iterative-accepted-2 : tie.Need-slice-aggregate-iterative-accepted-2
 slice-aggregate-iterative-accepted-2 c = search needs
@@ -45,18 +45,20 @@ iterative-accepted-requires : tie.Need-iterative-accepted-requires
 iterative-accepted-requires c κs =
     let e = c .before .before .before in
     let p = e .before .before in
-    let s = p .before .before .before .before .before .before in
+    let s = p .before .before .before .before .before .before .before in
     let n = s .args .shape .n in
     let bs = s .args .bytes .now in
-    let w = all-written n bs (s .pre .bytes) (p .samples .result) (p .samples .ensures) (e .if1 .left) in
-    record {
-      matrix = s .pre .decodable .matrix;
-      setting = s .pre .decodable .setting;
-      samples = ap length w ∙ samples-n n bs (s .pre .bytes);
-      finite = ap firstNotFinite w ∙ all-finite n bs (s .pre .bytes) (p .samples .result) (p .samples .ensures .place) (e .if1 .left) ∙ sym (ap length w);
-      room-word = s .pre .room;
-      room-levels = s .pre .decodable .matrix .sizes .n-most;
-    }
+    let w = all-written n bs (s .pre .0 .bytes) (p .samples .result) (p .samples .ensures) (e .if1 .left) in (
+      record {
+        matrix = s .pre .0 .decodable .matrix;
+        setting = s .pre .0 .decodable .setting;
+        samples = ap length w ∙ samples-n n bs (s .pre .0 .bytes);
+        finite = ap firstNotFinite w ∙ all-finite n bs (s .pre .0 .bytes) (p .samples .result) (p .samples .ensures .place) (e .if1 .left) ∙ sym (ap length w);
+        room-word = s .pre .0 .room;
+        room-levels = s .pre .0 .decodable .matrix .sizes .n-most;
+      },
+      s .pre .1,
+    )
 
 same-length : tie.Need-same-length
 same-length c = search needs
@@ -66,12 +68,12 @@ returns-2 c =
     let d = c .before .before .before in
     let e = d .before .before .before .before in
     let p = e .before .before in
-    let s = p .before .before .before .before .before .before in
+    let s = p .before .before .before .before .before .before .before in
     let n = s .args .shape .n in
     let bs = s .args .bytes .now in
     answered (matrixOf (s .args .shape) (s .args .list .now)) (choiceOf (s .args .setting)) bs
-    (block-passes n bs (s .pre .bytes) (p .samples .result) (p .samples .ensures .place) (e .if1 .left))
-    (all-written n bs (s .pre .bytes) (p .samples .result) (p .samples .ensures) (e .if1 .left))
+    (block-passes n bs (s .pre .0 .bytes) (p .samples .result) (p .samples .ensures .place) (e .if1 .left))
+    (all-written n bs (s .pre .0 .bytes) (p .samples .result) (p .samples .ensures) (e .if1 .left))
     (d .iterative-accepted .ensures)
 
 pub decode-spec : {M : Type 1} → statement M
@@ -81,7 +83,7 @@ decode-spec =
     cast-n
     slice-aggregate-samples
     samples-requires
-    cast-t14
+    cast-t15
     returns
     array-share-prefix-xs
     slice-aggregate-iterative-accepted

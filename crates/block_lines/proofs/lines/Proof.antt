@@ -10,20 +10,20 @@ use Rattle.block_lines.proofs.lines.Statement.{statement}
 use Rattle.block_lines.proofs.lines.Tie as tie
 
 abbrev Inv-loop : tie.InvT-loop
-Inv-loop shape list setting number bytes out₀ at size k₀ from₀ end₀ out k from end = Lined (matrixOf shape list) (choiceOf setting) number bytes at out₀ k from out end
+Inv-loop shape list index setting number bytes out₀ at size k₀ from₀ end₀ out k from end = Lined (matrixOf shape list) (choiceOf setting) number bytes at out₀ k from out end
 
 abbrev μ-loop : tie.MeasureT-loop
-μ-loop shape list setting number bytes out₀ at size k₀ from₀ end₀ out k from end = length bytes - from
+μ-loop shape list index setting number bytes out₀ at size k₀ from₀ end₀ out k from end = length bytes - from
 
 cast-size : tie.Need-cast-size Inv-loop μ-loop
-cast-size c = omega (arith, c .before .before .before .before .pre .decodable .matrix .sizes .n-most)
+cast-size c = omega (arith, c .before .before .before .before .before .pre .0 .decodable .matrix .sizes .n-most)
 
 mul-size : tie.Need-mul-size Inv-loop μ-loop
-mul-size c = omega (arith, c .before .before .before .before .pre .decodable .matrix .sizes .n-most)
+mul-size c = omega (arith, c .before .before .before .before .before .pre .0 .decodable .matrix .sizes .n-most)
 
 loop-holds : tie.Need-loop-holds Inv-loop μ-loop
 loop-holds c =
-    let s = c .before .before .before .before in
+    let s = c .before .before .before .before .before in
     lined-none (matrixOf (s .args .shape) (s .args .list .now)) (choiceOf (s .args .setting)) (s .args .number) (s .args .bytes .now) (s .args .at) (s .args .out .now)
 
 sub-loop : tie.Need-sub-loop Inv-loop μ-loop
@@ -35,10 +35,10 @@ add-to c = omega (arith, c .before .loop .inv .inside)
 add-block : tie.Need-add-block Inv-loop μ-loop
 add-block c =
     let l = c .before in
-    let s = l .before .before .before .before .before in
+    let s = l .before .before .before .before .before .before in
     let H = matrixOf (s .args .shape) (s .args .list .now) in
     let S = choiceOf (s .args .setting) in
-    omega (arith, s .pre .numbers, counted H S (s .args .number) (s .args .bytes .now) (s .args .at) (s .args .out .now) (s .pre) (l .loop .inv) (c .loop-test .taken))
+    omega (arith, s .pre .0 .numbers, counted H S (s .args .number) (s .args .bytes .now) (s .args .at) (s .args .out .now) (s .pre .0) (l .loop .inv) (c .loop-test .taken))
 
 sub-block : tie.Need-sub-block Inv-loop μ-loop
 sub-block c = omega arith
@@ -52,31 +52,31 @@ part-block-end c = omega (arith, c .before .loop .inv .inside)
 block-requires : tie.Need-block-requires Inv-loop μ-loop
 block-requires c κs =
     let l = c .before .before .before in
-    let s = l .before .before .before .before .before in
+    let s = l .before .before .before .before .before .before in
     let H = matrixOf (s .args .shape) (s .args .list .now) in
     let S = choiceOf (s .args .setting) in
-    lined-asks H S (s .args .number) (s .args .bytes .now) (s .args .at) (s .args .out .now) (s .pre) (l .loop .inv) (c .before .before .loop-test .taken)
+    (lined-asks H S (s .args .number) (s .args .bytes .now) (s .args .at) (s .args .out .now) (s .pre .0) (l .loop .inv) (c .before .before .loop-test .taken), s .pre .1)
 
 add-k : tie.Need-add-k Inv-loop μ-loop
 add-k c =
     let l = c .before .before .before .before .before .before in
-    let s = l .before .before .before .before .before in
+    let s = l .before .before .before .before .before .before in
     let H = matrixOf (s .args .shape) (s .args .list .now) in
     let S = choiceOf (s .args .setting) in
-    omega (arith, s .pre .numbers, counted H S (s .args .number) (s .args .bytes .now) (s .args .at) (s .args .out .now) (s .pre) (l .loop .inv) (c .before .before .before .before .before .loop-test .taken))
+    omega (arith, s .pre .0 .numbers, counted H S (s .args .number) (s .args .bytes .now) (s .args .at) (s .args .out .now) (s .pre .0) (l .loop .inv) (c .before .before .before .before .before .loop-test .taken))
 
 loop-less : tie.Need-loop-less Inv-loop μ-loop
 loop-less c =
     let l = c .before .before .before .before .before .before in
-    omega (arith, l .loop .inv .inside, l .before .before .before .before .before .pre .decodable .matrix .sizes .n-least, c .before .before .before .before .before .loop-test .taken)
+    omega (arith, l .loop .inv .inside, l .before .before .before .before .before .before .pre .0 .decodable .matrix .sizes .n-least, c .before .before .before .before .before .loop-test .taken)
 
 loop-again : tie.Need-loop-again Inv-loop μ-loop
 loop-again c =
     let l = c .before .before .before .before .before .before in
-    let s = l .before .before .before .before .before in
+    let s = l .before .before .before .before .before .before in
     let H = matrixOf (s .args .shape) (s .args .list .now) in
     let S = choiceOf (s .args .setting) in
-    lined-more H S (s .args .number) (s .args .bytes .now) (s .args .at) (s .args .out .now) (s .pre) (l .loop .inv) (c .before .before .before .before .before .loop-test .taken) (c .before .before .block .ensures)
+    lined-more H S (s .args .number) (s .args .bytes .now) (s .args .at) (s .args .out .now) (s .pre .0) (l .loop .inv) (c .before .before .before .before .before .loop-test .taken) (c .before .before .block .ensures)
 
 same-length : tie.Need-same-length Inv-loop μ-loop
 same-length c = put-length (c .before .loop .inv .put .put)
@@ -84,10 +84,10 @@ same-length c = put-length (c .before .loop .inv .put .put)
 returns : tie.Need-returns Inv-loop μ-loop
 returns c =
     let l = c .before in
-    let s = l .before .before .before .before .before in
+    let s = l .before .before .before .before .before .before in
     let H = matrixOf (s .args .shape) (s .args .list .now) in
     let S = choiceOf (s .args .setting) in
-    lined-all H S (s .args .number) (s .args .bytes .now) (s .args .at) (s .args .out .now) (s .pre) (l .loop .inv) (c .loop-test .left)
+    lined-all H S (s .args .number) (s .args .bytes .now) (s .args .at) (s .args .out .now) (s .pre .0) (l .loop .inv) (c .loop-test .left)
 
 pub lines-spec : {M : Type 1} → statement M
 lines-spec =
