@@ -6,7 +6,7 @@ use native.Mathlib.Nat.{mul-one}
 use native.Mathlib.Numerals.{add-one}
 use native.Mathlib.Decide.{ℕ-discrete}
 use native.Mathlib.Omega.{arith}
-use lib.ListN.{length, getD, set, replicate, getD-replicate, length-replicate, length-set}
+use lib.ListN.{getD, set, replicate, getD-replicate, length-replicate, length-set}
 use lib.Seq.{getD-set-same, getD-set-other}
 use Rattle.counting.specs.Sum.{sum, same}
 use Rattle.counting.proofs.Sums.{sum-bound, sum-cong, same-le, same-ne, same-refl}

@@ -1,4 +1,4 @@
--- `ffi::copy_front` meets its contract. The loop's invariant: the cells are as they were, but for the first i, which are copied. Assumes nothing.
+-- `codes::copy_front` meets its contract. The loop's invariant: the cells are as they were, but for the first i, which are copied. Assumes nothing.
 use mathlib.Core.Path.{_≡_, refl, sym, ap, _∙_}
 use mathlib.Core.List.{List}
 use Prim.Native.Nat.{ℕ, _-_, _≤_}
@@ -9,8 +9,8 @@ use Rattle.counting.specs.Lists.{listed, over}
 use Rattle.counting.proofs.Writing.{over-none, listed-getD}
 use Rattle.packed_word.specs.Steps.{at}
 use Rattle.packed_word.proofs.Storing.{over-next}
-use Rattle.ffi.proofs.copy_front.Statement.{statement}
-use Rattle.ffi.proofs.copy_front.Tie as tie
+use Rattle.codes.proofs.copy_front.Statement.{statement}
+use Rattle.codes.proofs.copy_front.Tie as tie
 
 abbrev Inv-loop : tie.InvT-loop
 Inv-loop from cells₀ i₀ cells i = (i ≤ length from) × (length cells ≡ length cells₀) × (cells ≡ over (listed i (at from)) cells₀)

@@ -1,12 +1,11 @@
--- `ffi::session_in` meets its contract: cell by cell. Assumes nothing.
+-- `codes::session_in` meets its contract: cell by cell. Assumes nothing.
 use mathlib.Core.Path.{ap}
 use mathlib.Core.List.{List}
 use Prim.Native.Nat.{ℕ}
 use lib.ListN.{getD}
-use Rattle.session.specs.Record.{Record}
 use borrow.Author.Needs.{needs}
-use Rattle.ffi.proofs.session_in.Statement.{statement}
-use Rattle.ffi.proofs.session_in.Tie as tie
+use Rattle.codes.proofs.session_in.Statement.{statement}
+use Rattle.codes.proofs.session_in.Tie as tie
 
 shared-slice-read-state-of : tie.Need-shared-slice-read-state-of
 shared-slice-read-state-of c = search needs

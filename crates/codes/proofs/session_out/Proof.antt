@@ -1,11 +1,11 @@
--- `ffi::session_out` meets its contract: the eight cells are copied to the front. Assumes nothing.
+-- `codes::session_out` meets its contract: the eight cells are copied to the front. Assumes nothing.
 use mathlib.Core.Path.{ap, _∙_}
-use mathlib.Core.List.{List, [], _∷_}
+use mathlib.Core.List.{[], _∷_}
 use Prim.Native.Nat.{ℕ}
 use Rattle.counting.specs.Lists.{over}
 use borrow.Author.Needs.{needs}
-use Rattle.ffi.proofs.session_out.Statement.{statement}
-use Rattle.ffi.proofs.session_out.Tie as tie
+use Rattle.codes.proofs.session_out.Statement.{statement}
+use Rattle.codes.proofs.session_out.Tie as tie
 
 number-of-requires : tie.Need-number-of-requires
 number-of-requires c κs = search needs

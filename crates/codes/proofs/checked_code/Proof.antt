@@ -1,12 +1,12 @@
--- `ffi::checked_code` meets its contract: a refusal by what its own code ensures. Assumes nothing.
-use mathlib.Core.Path.{_≡_, sym, ap, _∙_}
+-- `codes::checked_code` meets its contract: a refusal by what its own code ensures. Assumes nothing.
+use mathlib.Core.Path.{sym, ap, _∙_}
 use Rattle.answers.specs.declared.Checked.{Checked}
 use Rattle.answers.specs.Answers.{verdictOf}
 use Rattle.answers.specs.Paper.{after, report}
-use Rattle.ffi.specs.Codes.{codeOf}
+use Rattle.codes.specs.Codes.{codeOf}
 use borrow.Author.Needs.{needs}
-use Rattle.ffi.proofs.checked_code.Statement.{statement}
-use Rattle.ffi.proofs.checked_code.Tie as tie
+use Rattle.codes.proofs.checked_code.Statement.{statement}
+use Rattle.codes.proofs.checked_code.Tie as tie
 
 enum-told : tie.Need-enum-told
 enum-told c = search needs

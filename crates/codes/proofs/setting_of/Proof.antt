@@ -1,8 +1,8 @@
--- `ffi::setting_of` meets its contract: one case for each kind of step. Assumes nothing.
+-- `codes::setting_of` meets its contract: one case for each kind of step. Assumes nothing.
 use native.Mathlib.Omega.{arith}
-use Rattle.ffi.proofs.StandIns.{stands-level, stands-scale, stands-none}
-use Rattle.ffi.proofs.setting_of.Statement.{statement}
-use Rattle.ffi.proofs.setting_of.Tie as tie
+use Rattle.codes.proofs.StandIns.{stands-level, stands-scale, stands-none}
+use Rattle.codes.proofs.setting_of.Statement.{statement}
+use Rattle.codes.proofs.setting_of.Tie as tie
 
 returns : tie.Need-returns
 returns c = let a = c .before .args in stands-level (a .bits) (a .limit) (a .kind) (a .step) (c .if1 .taken)
