@@ -2,19 +2,18 @@
 use mathlib.Core.Path.{_≡_, refl}
 use mathlib.Core.Bool.{Bool, true, false, cond}
 use mathlib.Core.List.{List}
-use Prim.Native.Nat.{ℕ, _≤_, _<_}
+use Prim.Native.Nat.{ℕ, _≤_}
 use native.Mathlib.Omega.{arith}
 use lib.Dec.{eqb}
 use lib.Ieee.{Float}
-use Rattle.counting.specs.Sum.{sum}
 use Rattle.counting.proofs.Sums.{sum-bound}
 use Rattle.counting.proofs.Searches.{cases}
-use Rattle.answers.specs.Paper.{Verdict, accepted, refused, Said, report, andThen, after}
+use Rattle.answers.specs.Paper.{Verdict, accepted, refused, Said, andThen, after}
 use Rattle.packed_word.specs.Packed.{bitAt}
 use Rattle.packed_word.proofs.Distances.{distance-le}
 use Rattle.parity_check.specs.Code.{Matrix, fails, failing}
 use Rattle.parity_check.specs.Check.{checkOf}
-use Rattle.parity_check.specs.Reading.{Accepted, Sizes}
+use Rattle.parity_check.specs.Reading.{Accepted}
 use Rattle.parity_check.proofs.Rows.{fails-bit}
 use Rattle.parity_check.proofs.Reading.{accepted-is}
 use Rattle.syndrome.specs.Failing.{failingVerdict, failingOf}
@@ -23,7 +22,7 @@ use Rattle.quantiser.specs.Samples.{Choice, settingFits, largest, hardBit}
 use Rattle.quantiser.proofs.Ranges.{fits-reads}
 use Rattle.iterative.specs.Iterative.{startOf, changedBits, endFrom, reportAt, iterativeVerdict, iterativeOf}
 use Rattle.iterative.proofs.Ends.{rounds-within}
-use Rattle.ffi.specs.Codes.{Small, Room}
+use Rattle.codes.specs.Codes.{Small}
 
 -- no more checks fail than there are
 pub failing-le : (H : Matrix) (z : ℕ → ℕ) → failing H z ≤ H .m

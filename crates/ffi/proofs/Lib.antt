@@ -1,3 +1,3 @@
 pub mod Bounds
-pub mod StandIns
+pub mod Alike
 pub mod Sessions

@@ -1,16 +1,15 @@
 -- Sessions across the exported functions: room for the answer, the setting's stand-in, and the cells of a record. Assumes nothing.
 use mathlib.Core.Path.{_≡_, refl, sym, ap, ap₂, subst, _∙_}
-use mathlib.Core.Bool.{Bool, true, false}
+use mathlib.Core.Bool.{Bool}
 use mathlib.Core.List.{List}
-use Prim.Native.Nat.{ℕ, suc, _≤_, _<_}
+use Prim.Native.Nat.{ℕ, suc, _<_}
 use native.Mathlib.Omega.{arith}
-use lib.Dec.{eqb}
 use lib.IntN.{ℤ}
 use lib.Ieee.{Float}
 use lib.ListN.{length}
 use borrow.Author.Tests.{eq-eqb, ne-eqb}
 use Rattle.counting.proofs.Searches.{cases}
-use Rattle.answers.specs.Paper.{Verdict, accepted, refused, Said, refusal, report, andThen}
+use Rattle.answers.specs.Paper.{Verdict, accepted, refused, Said, andThen}
 use Rattle.answers.specs.Answers.{saidOf}
 use Rattle.answers.specs.declared.Answer.{Answer}
 use Rattle.packed_word.specs.Packed.{bitAt}
@@ -18,20 +17,20 @@ use Rattle.packed_word.proofs.Distances.{distance-le}
 use Rattle.parity_check.specs.Code.{Matrix, failing}
 use Rattle.parity_check.specs.Check.{checkOf}
 use Rattle.parity_check.specs.Reading.{Accepted}
-use Rattle.quantiser.specs.Samples.{Choice, settingFits, largest, hardBit}
-use Rattle.iterative.specs.Iterative.{startOf, changedBits, iterativeVerdict}
-use Rattle.session.specs.Record.{Record, stateAfter, outcomeIn}
+use Rattle.quantiser.specs.Samples.{Choice, settingFits, hardBit}
+use Rattle.iterative.specs.Iterative.{startOf, changedBits}
+use Rattle.session.specs.Record.{Record}
 use Rattle.session.specs.Steps.{Held, Left, saysAt, openVerdict, openOf, stepVerdict, stepOf}
-use Rattle.session.specs.Reading.{Openable, Steppable, Usable}
-use Rattle.session.specs.Sessions.{recordOf, openedLeft, steppedLeft, steppedState, Leaves}
+use Rattle.session.specs.Sessions.{recordOf, steppedState, Leaves}
 use Rattle.session.specs.declared.Session.{Session}
 use Rattle.session.proofs.Asking.{accepted-open, accepted-step}
 use Rattle.session.proofs.Calls.{refused-open-keeps, refused-step-keeps, accepted-opens, accepted-steps}
-use Rattle.ffi.specs.Codes.{codeOf, Small, Room}
-use Rattle.ffi.specs.Records.{recordIn, cellsOf, leftBy, onRecord, writtenBy, CalledAs}
-use Rattle.ffi.specs.Settings.{StandsFor}
+use Rattle.codes.specs.Codes.{codeOf, Small}
+use Rattle.codes.specs.Records.{cellsOf, writtenBy}
+use Rattle.codes.specs.Settings.{StandsFor}
+use Rattle.ffi.specs.Calls.{leftBy, onRecord, CalledAs}
 use Rattle.ffi.proofs.Bounds.{failing-le}
-use Rattle.ffi.proofs.StandIns.{unfit-verdict}
+use Rattle.ffi.proofs.Alike.{unfit-verdict}
 
 -- a verdict accepts or refuses
 verdict-cases {ℓ} : {A : Type ℓ} (v : Verdict) → (v ≡ accepted → A) → ((k x : ℕ) → v ≡ refused k x → A) → A

@@ -1,4 +1,2 @@
 -- What the contracts of `ffi` cite.
-pub mod Codes
-pub mod Settings
-pub mod Records
+pub mod Calls

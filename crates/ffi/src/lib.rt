@@ -1,20 +1,16 @@
 // Exported functions for tests and benchmarks: each answer is one number of 64 bits.
-// Rests on every decoder. Design, section 4: the test face.
+// Rests on every decoder and on `codes`. Design, section 4: the test face.
 use answers::Answer;
-use answers::Checked;
-use answers::Counted;
-use answers::Refusal;
-use answers::Report;
+use codes::answer_code;
+use codes::checked_code;
+use codes::counted_code;
+use codes::session_in;
+use codes::setting_of;
+use codes::turn_code;
 use parity_check::Shape;
-use quantiser::Setting;
-use quantiser::Step;
-use session::Session;
-use session::Turn;
 ghost use mathlib.Core.Path.{_≡_};
-ghost use Prim.Native.Nat.{_+_, _*_, _≤_};
 ghost use lib.ListN.{length};
 ghost use Rattle.answers.specs.Paper.{report, after, written};
-ghost use Rattle.answers.specs.Answers.{numberOf, placeOf, reportOf, saidOf, verdictOf, countedOf};
 ghost use Rattle.counting.specs.Lists.{over};
 ghost use Rattle.packed_word.specs.Packed.{bitAt};
 ghost use Rattle.parity_check.specs.Code.{matrix};
@@ -22,67 +18,15 @@ ghost use Rattle.parity_check.specs.Check.{checkOf};
 ghost use Rattle.syndrome.specs.Failing.{failingOf};
 ghost use Rattle.majority_logic.specs.OneStep.{oneStepReport, oneStepVerdict, oneStepOf, oneStepWord};
 ghost use Rattle.one_step.specs.Stepped.{Lent};
-ghost use Rattle.quantiser.specs.Settings.{choiceOf};
-ghost use Rattle.session.specs.Sessions.{recordOf};
 ghost use Rattle.session.specs.Stepping.{lent};
 ghost use Rattle.session.specs.Steps.{openOf, stepOf};
-ghost use Rattle.ffi.specs.Codes.{codeOf, Small};
-ghost use Rattle.ffi.specs.Records.{recordIn, cellsOf, onRecord, writtenBy, CalledAs};
-ghost use Rattle.ffi.specs.Settings.{choice, StandsFor, QuantisedAs, DecodedAs};
+ghost use Rattle.codes.specs.Codes.{codeOf};
+ghost use Rattle.codes.specs.Records.{recordIn};
+ghost use Rattle.codes.specs.Settings.{choice};
+ghost use Rattle.ffi.specs.Calls.{QuantisedAs, DecodedAs, onRecord, CalledAs};
 
-// A refusal: its number and its place.
-fn refusal_code(f: Refusal) -> u64
-    ensures { λ r. ⌜ r ≡ numberOf f * 65536 + placeOf f ⌝ }
-{
-    let k = answers::number(f) as u64;
-    let x = answers::place(f) as u64;
-    k * 65536 + x
-}
-
-// A report: outcome, rounds, failing and changed, each in its own places.
-fn report_code(p: Report) -> u64
-    requires { ⌜ Small (reportOf p) ⌝ }
-    ensures { λ r. ⌜ r ≡ codeOf (reportOf p) ⌝ }
-{
-    let outcome = p.outcome;
-    let o = answers::outcome_number(outcome) as u64;
-    let r = p.rounds as u64;
-    let f = p.failing as u64;
-    let c = p.changed as u64;
-    o + 4294967296 * (r + 256 * (f + 4096 * c))
-}
-
-// The answer of a decoding call.
-fn answer_code(a: Answer) -> u64
-    requires { ⌜ Small (saidOf a) ⌝ }
-    ensures { λ r. ⌜ r ≡ codeOf (saidOf a) ⌝ }
-{
-    match a {
-        Answer::Done(p) => report_code(p),
-        Answer::Refused(f) => refusal_code(f),
-    }
-}
-
-// The answer of a count: failing alone is not 0.
-fn counted_code(a: Counted) -> u64
-    requires { ⌜ Small (countedOf a) ⌝ }
-    ensures { λ r. ⌜ r ≡ codeOf (countedOf a) ⌝ }
-{
-    match a {
-        Counted::Failing(f) => 4294967296 * (256 * (f as u64)),
-        Counted::Refused(f) => refusal_code(f),
-    }
-}
-
-// The answer of a check: 0 where it accepts.
-fn checked_code(a: Checked) -> u64
-    ensures { λ r. ⌜ r ≡ codeOf (after (verdictOf a) (report 0 0 0 0)) ⌝ }
-{
-    match a {
-        Checked::Accepted => 0,
-        Checked::Refused(f) => refusal_code(f),
-    }
-}
+// Refusal 7: what a call answers that is lent a record of another length than 8.
+const NOT_EIGHT: u64 = 458752;
 
 // The matrix check.
 #[no_mangle]
@@ -128,31 +72,6 @@ pub extern "C" fn mlgd_one_step(
     answer_code(a)
 }
 
-// The setting of a kind of step and a step. A third kind is given a step that is out of range, so that it is refused as 6 too.
-fn setting_of(bits: u16, limit: u16, kind: u16, step: f32) -> Setting
-    ensures { λ r. ⌜ StandsFor (choice bits limit kind step) (choiceOf r) ⌝ }
-{
-    if kind == 0 {
-        return Setting {
-            bits,
-            limit,
-            step: Step::Level(step),
-        };
-    }
-    if kind == 1 {
-        return Setting {
-            bits,
-            limit,
-            step: Step::FullScale(step),
-        };
-    }
-    Setting {
-        bits,
-        limit,
-        step: Step::Level(0.0),
-    }
-}
-
 // The quantiser.
 #[no_mangle]
 pub extern "C" fn mlgd_quantise(
@@ -166,8 +85,7 @@ pub extern "C" fn mlgd_quantise(
 ) -> u64
     ensures { λ r. ⌜ QuantisedAs (choice bits limit kind step) (now (samples .entry)) r (now (levels .entry)) (now (levels .exit)) (now (word .entry)) (now (word .exit)) ⌝ }
 {
-    let setting = setting_of(bits, limit, kind, step);
-    let a = quantiser::quantise(setting, samples, levels, word);
+    let a = quantiser::quantise(setting_of(bits, limit, kind, step), samples, levels, word);
     checked_code(a)
 }
 
@@ -190,66 +108,15 @@ pub extern "C" fn mlgd_iterative(
     ensures { λ r. ⌜ DecodedAs (matrix n m rho gamma (now (list .entry))) (choice bits limit kind step) (now (samples .entry)) r (now (word .entry)) (now (word .exit)) (now (levels .entry)) (now (levels .exit)) ⌝ }
 {
     let shape = Shape { n, m, rho, gamma };
-    let setting = setting_of(bits, limit, kind, step);
-    let a = iterative::iterative(shape, list, setting, samples, word, levels);
+    let a = iterative::iterative(
+        shape,
+        list,
+        setting_of(bits, limit, kind, step),
+        samples,
+        word,
+        levels,
+    );
     answer_code(a)
-}
-
-// The session that eight cells are.
-fn session_in(cells: &[u16]) -> Session
-    requires { ⌜ length (now cells) ≡ 8 ⌝ }
-    ensures { λ r. ⌜ recordOf r ≡ recordIn (now (cells .entry)) ⌝ }
-{
-    let state = session::state_of(cells[0]);
-    Session {
-        state,
-        bits: cells[1],
-        limit: cells[2],
-        k: cells[3],
-        n: cells[4],
-        m: cells[5],
-        rho: cells[6],
-        gamma: cells[7],
-    }
-}
-
-// Copies `from` to the front of the cells.
-fn copy_front(from: &[u16], cells: &mut [u16])
-    requires { ⌜ length (now from) ≤ length (now cells) ⌝ }
-    ensures { λ _. ⌜ now (cells .exit) ≡ over (now (from .entry)) (now (cells .entry)) ⌝ }
-{
-    let mut i = 0;
-    while i < from.len() {
-        cells[i] = from[i];
-        i += 1;
-    }
-}
-
-// The cells of a session.
-fn session_out(s: Session, cells: &mut [u16])
-    requires { ⌜ length (now cells) ≡ 8 ⌝ }
-    ensures { λ _. ⌜ now (cells .exit) ≡ over (cellsOf (recordOf s)) (now (cells .entry)) ⌝ }
-{
-    let state = s.state;
-    let number = session::number_of(state);
-    let from = [number, s.bits, s.limit, s.k, s.n, s.m, s.rho, s.gamma];
-    copy_front(&from, cells);
-}
-
-// The code of a turn. The record is brought up to date unless the call was refused.
-fn turn_code(turn: Turn, cells: &mut [u16]) -> u64
-    requires { ⌜ (length (now cells) ≡ 8) × Small (saidOf (turn .answer)) ⌝ }
-    ensures { λ r. ⌜ (r ≡ codeOf (saidOf (turn .answer))) × (now (cells .exit) ≡ writtenBy (saidOf (turn .answer)) (cellsOf (recordOf (turn .session))) (now (cells .entry))) ⌝ }
-{
-    let answer = turn.answer;
-    let s = turn.session;
-    match answer {
-        Answer::Done(p) => {
-            session_out(s, cells);
-            report_code(p)
-        }
-        Answer::Refused(f) => refusal_code(f),
-    }
 }
 
 // Opening a session.
@@ -272,7 +139,7 @@ pub extern "C" fn mlgd_open(
     ensures { λ r. ⌜ CalledAs (onRecord (now (cells .entry)) (openOf (matrix n m rho gamma (now (list .entry))) (choice bits limit kind step) (now (samples .entry)) (lent (recordIn (now (cells .entry))) (now (word .entry)) (now (levels .entry)))) (lent (recordIn (now (cells .entry))) (now (word .entry)) (now (levels .entry)))) r (now (cells .entry)) (now (cells .exit)) (now (word .exit)) (now (levels .exit)) ⌝ }
 {
     if cells.len() != 8 {
-        return 458752;
+        return NOT_EIGHT;
     }
     let shape = Shape { n, m, rho, gamma };
     let setting = setting_of(bits, limit, kind, step);
@@ -297,7 +164,7 @@ pub extern "C" fn mlgd_step(
     ensures { λ r. ⌜ CalledAs (onRecord (now (cells .entry)) (stepOf (matrix n m rho gamma (now (list .entry))) (now (received .entry)) (lent (recordIn (now (cells .entry))) (now (word .entry)) (now (levels .entry)))) (lent (recordIn (now (cells .entry))) (now (word .entry)) (now (levels .entry)))) r (now (cells .entry)) (now (cells .exit)) (now (word .exit)) (now (levels .exit)) ⌝ }
 {
     if cells.len() != 8 {
-        return 458752;
+        return NOT_EIGHT;
     }
     let shape = Shape { n, m, rho, gamma };
     let s = session_in(cells);
@@ -321,5 +188,6 @@ pub extern "C" fn mlgd_one_step_accepted(
     ensures word { λ r. ⌜ now (word .exit) ≡ over (oneStepWord (matrix n m rho gamma (now (list .entry))) (now (received .entry))) (now (word .entry)) ⌝ }
 {
     let shape = Shape { n, m, rho, gamma };
-    report_code(one_step::one_step_accepted(shape, list, received, word))
+    let p = one_step::one_step_accepted(shape, list, received, word);
+    answer_code(Answer::Done(p))
 }

@@ -1,7 +1,6 @@
--- What the contracts of `parity_check` cite.
-pub mod Code
-pub mod Check
-pub mod Reading
-pub mod Shapes
+-- What the contracts of `parity_check` cite. The matrix's definitions are passed on: who rests on the check names them here.
+pub use Rattle.matrix.specs.Code
+pub use Rattle.matrix.specs.Check
+pub use Rattle.matrix.specs.Reading
+pub use Rattle.matrix.specs.Shapes
 pub mod Walking
-pub mod Meeting

@@ -5,10 +5,10 @@ use Rattle.answers.specs.Answers.{saidOf}
 use Rattle.parity_check.specs.Code.{Matrix, matrix}
 use Rattle.quantiser.specs.Samples.{Choice}
 use Rattle.quantiser.specs.Settings.{choiceOf}
-use Rattle.ffi.specs.Codes.{codeOf, Small}
-use Rattle.ffi.specs.Settings.{choice}
+use Rattle.codes.specs.Codes.{codeOf, Small}
+use Rattle.codes.specs.Settings.{choice}
 use Rattle.ffi.proofs.Bounds.{iterative-small}
-use Rattle.ffi.proofs.StandIns.{iterative-alike}
+use Rattle.ffi.proofs.Alike.{iterative-alike}
 use borrow.Author.Needs.{needs}
 use Rattle.ffi.proofs.mlgd_iterative.Statement.{statement}
 use Rattle.ffi.proofs.mlgd_iterative.Tie as tie

@@ -2,7 +2,7 @@
 use mathlib.Core.Path.{sym, ap, subst, _∙_}
 use lib.ListN.{length}
 use Rattle.parity_check.specs.Code.{matrix}
-use Rattle.ffi.specs.Codes.{codeOf, Small}
+use Rattle.codes.specs.Codes.{codeOf, Small}
 use Rattle.ffi.proofs.Bounds.{one-step-small}
 use borrow.Author.Needs.{needs}
 use Rattle.ffi.proofs.mlgd_one_step.Statement.{statement}

@@ -2,7 +2,7 @@
 use mathlib.Core.Path.{sym, ap, subst, _∙_}
 use Rattle.packed_word.specs.Packed.{bitAt}
 use Rattle.parity_check.specs.Code.{matrix}
-use Rattle.ffi.specs.Codes.{codeOf, Small}
+use Rattle.codes.specs.Codes.{codeOf, Small}
 use Rattle.ffi.proofs.Bounds.{report-small}
 use borrow.Author.Needs.{needs}
 use Rattle.ffi.proofs.mlgd_one_step_accepted.Statement.{statement}
@@ -11,8 +11,8 @@ use Rattle.ffi.proofs.mlgd_one_step_accepted.Tie as tie
 one-step-accepted-requires : tie.Need-one-step-accepted-requires
 one-step-accepted-requires c κs = search needs
 
-report-code-requires : tie.Need-report-code-requires
-report-code-requires c κs =
+answer-code-requires : tie.Need-answer-code-requires
+answer-code-requires c κs =
     let s = c .before .before .before .before .before .before .before in
     let a = s .args in
     subst Small (sym (c .before .before .one-step-accepted .ensures .says))
@@ -23,8 +23,8 @@ same-length c = search needs
 
 returns : tie.Need-returns
 returns c =
-    let r = c .before .before .before .one-step-accepted .ensures in (c .report-code .ensures ∙ ap codeOf (r .says), r .word)
+    let r = c .before .before .before .one-step-accepted .ensures in (c .answer-code .ensures ∙ ap codeOf (r .says), r .word)
 
 pub mlgd-one-step-accepted-spec : {M : Type 1} → statement M
 mlgd-one-step-accepted-spec =
-    tie.close (tie.spec one-step-accepted-requires report-code-requires same-length returns)
+    tie.close (tie.spec one-step-accepted-requires answer-code-requires same-length returns)

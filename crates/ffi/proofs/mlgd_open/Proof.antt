@@ -8,11 +8,11 @@ use Rattle.session.specs.Record.{Record}
 use Rattle.session.specs.Sessions.{recordOf, Leaves}
 use Rattle.session.specs.Steps.{Left, Held, openOf}
 use Rattle.session.specs.Stepping.{lent}
-use Rattle.ffi.specs.Codes.{Small}
-use Rattle.ffi.specs.Records.{recordIn}
+use Rattle.codes.specs.Codes.{Small}
+use Rattle.codes.specs.Records.{recordIn}
 use Rattle.quantiser.specs.Samples.{Choice}
 use Rattle.quantiser.specs.Settings.{choiceOf}
-use Rattle.ffi.specs.Settings.{choice}
+use Rattle.codes.specs.Settings.{choice}
 use Rattle.ffi.proofs.Sessions.{open-small, open-alike, called, on-eight, not-eight}
 use borrow.Author.Needs.{needs}
 use Rattle.ffi.proofs.mlgd_open.Statement.{statement}

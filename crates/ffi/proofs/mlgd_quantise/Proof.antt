@@ -3,9 +3,9 @@ use mathlib.Core.Path.{ap, _∙_}
 use Rattle.answers.specs.Paper.{Verdict, after, report}
 use Rattle.answers.specs.Answers.{verdictOf}
 use Rattle.quantiser.specs.Settings.{choiceOf}
-use Rattle.ffi.specs.Codes.{codeOf}
-use Rattle.ffi.specs.Settings.{choice}
-use Rattle.ffi.proofs.StandIns.{quantise-alike}
+use Rattle.codes.specs.Codes.{codeOf}
+use Rattle.codes.specs.Settings.{choice}
+use Rattle.ffi.proofs.Alike.{quantise-alike}
 use borrow.Author.Needs.{needs}
 use Rattle.ffi.proofs.mlgd_quantise.Statement.{statement}
 use Rattle.ffi.proofs.mlgd_quantise.Tie as tie

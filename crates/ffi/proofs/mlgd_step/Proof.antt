@@ -1,15 +1,15 @@
 -- `ffi::mlgd_step` meets its contract: eight cells are a record, and the step's answer and cells are the definition's. Assumes nothing.
-use mathlib.Core.Path.{_≡_, sym, ap, subst, _∙_}
+use mathlib.Core.Path.{sym, subst}
 use mathlib.Core.List.{List}
 use Prim.Native.Nat.{ℕ}
 use lib.IntN.{ℤ}
 use Rattle.parity_check.specs.Code.{Matrix, matrix}
 use Rattle.session.specs.Record.{Record}
 use Rattle.session.specs.Sessions.{recordOf, Leaves}
-use Rattle.session.specs.Steps.{Left, Held, stepOf}
+use Rattle.session.specs.Steps.{Held, stepOf}
 use Rattle.session.specs.Stepping.{lent}
-use Rattle.ffi.specs.Codes.{Small}
-use Rattle.ffi.specs.Records.{recordIn}
+use Rattle.codes.specs.Codes.{Small}
+use Rattle.codes.specs.Records.{recordIn}
 use Rattle.ffi.proofs.Sessions.{step-small, called, on-eight, not-eight}
 use borrow.Author.Needs.{needs}
 use Rattle.ffi.proofs.mlgd_step.Statement.{statement}

@@ -6,7 +6,7 @@ use native.Mathlib.Nat.{zero-mod}
 use native.Mathlib.Omega.{arith}
 use borrow.Author.Tests.{le-leb, lt-leb, le-ltb, lt-ltb}
 use lib.Dec.{ltb}
-use Rattle.parity_check.specs.Check.{badEntry}
+use Rattle.matrix.specs.Check.{badEntry}
 use borrow.Author.Needs.{needs}
 use Rattle.parity_check.proofs.bad_entry.Statement.{statement}
 use Rattle.parity_check.proofs.bad_entry.Tie as tie

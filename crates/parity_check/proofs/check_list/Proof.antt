@@ -6,13 +6,14 @@ use lib.ListN.{length}
 use Rattle.counting.specs.Search.{first}
 use Rattle.counting.proofs.Searches.{first-le}
 use Rattle.counting.proofs.Deciding.{found, missed}
-use Rattle.parity_check.specs.Code.{Matrix}
-use Rattle.parity_check.specs.Check.{badEntry, badWeight}
-use Rattle.parity_check.specs.Reading.{BadEntry, BadWeight, Never, entry-bad, weight-bad, rows-overlap, fine}
-use Rattle.parity_check.specs.Shapes.{matrixOf}
-use Rattle.parity_check.proofs.Reading.{entries, weights, overlaps, accepts, reads-only}
-use Rattle.parity_check.proofs.Ordered.{few}
-use Rattle.parity_check.proofs.Tallies.{tally-none, tally-off}
+use Rattle.matrix.specs.Code.{Matrix}
+use Rattle.matrix.specs.Check.{badEntry, badWeight}
+use Rattle.matrix.specs.Reading.{BadEntry, BadWeight, Never, entry-bad, weight-bad, rows-overlap, fine}
+use Rattle.matrix.specs.Shapes.{matrixOf}
+use Rattle.matrix.proofs.Reading.{entries, weights, overlaps, accepts, reads-only}
+use Rattle.row_overlap.proofs.Ordered.{few}
+use Rattle.row_overlap.proofs.Tallies.{tally-none}
+use Rattle.parity_check.proofs.Weights.{tally-off}
 use Rattle.parity_check.proofs.check_list.Statement.{statement}
 use Rattle.parity_check.proofs.check_list.Tie as tie
 

@@ -2,7 +2,7 @@
 use mathlib.Core.Bool.{and-assoc}
 use native.Mathlib.Nat.{mul-le-mul}
 use native.Mathlib.Omega.{arith}
-use Rattle.parity_check.specs.Check.{sizesFit}
+use Rattle.matrix.specs.Check.{sizesFit}
 use borrow.Author.Needs.{needs}
 use Rattle.parity_check.proofs.sizes_fit.Statement.{statement}
 use Rattle.parity_check.proofs.sizes_fit.Tie as tie

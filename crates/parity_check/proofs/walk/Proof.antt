@@ -7,11 +7,13 @@ use native.Mathlib.Omega.{arith}
 use borrow.Author.Count.{below-more}
 use lib.ListN.{length}
 use Rattle.counting.proofs.Searches.{first-none, first-at}
-use Rattle.parity_check.specs.Check.{badEntry}
-use Rattle.parity_check.specs.Shapes.{matrixOf}
-use Rattle.parity_check.specs.Walking.{Tally, listAt}
-use Rattle.parity_check.proofs.Ordered.{few, good-below}
-use Rattle.parity_check.proofs.Tallies.{tally-more, tally-le}
+use Rattle.matrix.specs.Check.{badEntry}
+use Rattle.matrix.specs.Shapes.{matrixOf}
+use Rattle.row_overlap.specs.Tallies.{Tally}
+use Rattle.row_overlap.proofs.Ordered.{few}
+use Rattle.row_overlap.proofs.Tallies.{tally-more, tally-le}
+use Rattle.parity_check.specs.Walking.{listAt}
+use Rattle.parity_check.proofs.Weights.{good-below}
 use Rattle.parity_check.proofs.walk.Statement.{statement}
 use Rattle.parity_check.proofs.walk.Tie as tie
 

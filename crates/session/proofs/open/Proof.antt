@@ -57,9 +57,9 @@ use Rattle.session.proofs.Turn.Laws as U′
 use Rattle.answers.specs.declared.Answer.{Answer}
 use Rattle.answers.proofs.Answer as Ans
 use Rattle.answers.proofs.Answer.Laws as Ans′
-use Rattle.parity_check.specs.declared.Shape.{Shape}
-use Rattle.parity_check.proofs.Shape as Shape-type
-use Rattle.parity_check.proofs.Shape.Laws as Shape-laws
+use Rattle.matrix.specs.declared.Shape.{Shape}
+use Rattle.matrix.proofs.Shape as Shape-type
+use Rattle.matrix.proofs.Shape.Laws as Shape-laws
 use Rattle.quantiser.specs.declared.Setting.{Setting}
 use Rattle.quantiser.proofs.Setting as Setting-type
 use Rattle.quantiser.proofs.Setting.Laws as Setting-laws

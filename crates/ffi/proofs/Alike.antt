@@ -1,0 +1,67 @@
+-- A setting that stands for another gives the same answers and writes the same. Assumes nothing.
+use mathlib.Core.Path.{_≡_, refl, sym, subst, _∙_}
+use mathlib.Core.Bool.{false}
+use mathlib.Core.List.{List}
+use Prim.Native.Nat.{ℕ}
+use lib.IntN.{ℤ}
+use lib.Ieee.{Float}
+use lib.ListN.{length}
+use Rattle.counting.proofs.Searches.{cases}
+use Rattle.answers.specs.Paper.{Verdict, accepted, refused, Said, andThen, after, written}
+use Rattle.parity_check.specs.Code.{Matrix}
+use Rattle.parity_check.specs.Check.{checkOf}
+use Rattle.quantiser.specs.Samples.{Choice, settingFits, quantiseVerdict}
+use Rattle.quantiser.specs.Filling.{Quantised}
+use Rattle.iterative.specs.Iterative.{iterativeVerdict, iterativeOf, iterativeWord, iterativeLevels}
+use Rattle.iterative.specs.Calls.{Answered}
+use Rattle.codes.specs.Settings.{StandsFor}
+
+-- what a refusal by 6 says and writes does not turn on the setting
+module _ (v : Verdict) where
+  says-six : (s s′ : Said) → after (andThen v (refused 6 0)) s ≡ after (andThen v (refused 6 0)) s′
+  says-six s s′ = go v
+    where
+      go : (v : Verdict) → after (andThen v (refused 6 0)) s ≡ after (andThen v (refused 6 0)) s′
+      go accepted = refl
+      go (refused k x) = refl
+
+  keeps-six : {A : Type 0} (new old : List A) → written (andThen v (refused 6 0)) new old ≡ old
+  keeps-six new old = go v
+    where
+      go : (v : Verdict) → written (andThen v (refused 6 0)) new old ≡ old
+      go accepted = refl
+      go (refused k x) = refl
+
+pub unfit-verdict : (H : Matrix) (S : Choice) (xs : List Float) (b l : ℕ) → settingFits S ≡ false
+    → iterativeVerdict H S xs b l ≡ andThen (checkOf H) (refused 6 0)
+unfolding iterativeVerdict
+unfit-verdict H S xs b l e = rw e
+
+unfit-quantise : (S : Choice) (xs : List Float) (l b : ℕ) → settingFits S ≡ false → quantiseVerdict S xs l b ≡ refused 6 0
+unfolding quantiseVerdict
+unfit-quantise S xs l b e = rw e
+
+module _ (S T : Choice) (st : StandsFor S T) (xs : List Float) (said : Said) (w w′ : List ℕ) (ls ls′ : List ℤ) where
+  pub iterative-alike : (H : Matrix) → Answered H T xs said w w′ ls ls′ → Answered H S xs said w w′ ls ls′
+  unfolding iterativeOf
+  iterative-alike H a = cases (settingFits S) (λ y. subst (λ (X : Choice). Answered H X xs said w w′ ls ls′) (st .same y) a) unfit
+    where
+      unfit : settingFits S ≡ false → Answered H S xs said w w′ ls ls′
+      unfit n =
+          let vT = unfit-verdict H T xs (length w) (length ls) (st .fits ∙ n) in
+          let vS = unfit-verdict H S xs (length w) (length ls) n in
+          record {
+            answer = a .answer ∙ rw (vT, vS) (says-six (checkOf H) _ _);
+            word = a .word ∙ rw (vT, vS) (keeps-six (checkOf H) (iterativeWord H T xs) w ∙ sym (keeps-six (checkOf H) (iterativeWord H S xs) w));
+            levels = a .levels ∙ rw (vT, vS) (keeps-six (checkOf H) (iterativeLevels H T xs) ls ∙ sym (keeps-six (checkOf H) (iterativeLevels H S xs) ls));
+          }
+
+pub quantise-alike : (S T : Choice) → StandsFor S T → (xs : List Float) (v : Verdict) (ls ls′ : List ℤ) (w w′ : List ℕ) → Quantised T xs v ls ls′ w w′
+    → Quantised S xs v ls ls′ w w′
+quantise-alike S T st xs v ls ls′ w w′ q = cases (settingFits S) (λ y. subst (λ (X : Choice). Quantised X xs v ls ls′ w w′) (st .same y) q) unfit
+  where
+    unfit : settingFits S ≡ false → Quantised S xs v ls ls′ w w′
+    unfit n =
+        let vT = unfit-quantise T xs (length ls) (length w) (st .fits ∙ n) in
+        let vS = unfit-quantise S xs (length ls) (length w) n in
+        record { answer = q .answer ∙ vT ∙ sym vS; levels = q .levels ∙ rw (vT, vS) refl; word = q .word ∙ rw (vT, vS) refl }

@@ -1,0 +1,4 @@
+pub mod Ordered
+pub mod Tallies
+pub mod Words
+pub mod Meeting

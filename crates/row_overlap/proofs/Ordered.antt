@@ -1,0 +1,25 @@
+-- What the earlier refusals leave to the later ones: where entries stand, and what they are. Assumes nothing.
+use Prim.Native.Nat.{ℕ, suc, _+_, _*_, _≤_, _<_}
+use native.Mathlib.Omega.{arith}
+use lib.ListN.{length}
+use Rattle.matrix.specs.Code.{Matrix, entry}
+use Rattle.row_overlap.specs.Ordered.{Sized, Ordered}
+use Rattle.matrix.proofs.Rows.{few-entries, stands}
+use Rattle.matrix.proofs.Reading.{clear-below, clear-ascending}
+
+module _ {H : Matrix} (z : Sized H) where
+  pub few : length (H .list) ≤ 32736
+  few = omega (arith, z .whole, few-entries H (z .sizes))
+
+  pub in-list : (i k : ℕ) → i < H .m → k < H .rho → i * H .rho + k < length (H .list)
+  in-list i k l h = stands H (z .whole) i k l h
+
+module _ {H : Matrix} (o : Ordered H) where
+  pub column-in : (i k : ℕ) → i < H .m → k < H .rho → entry H i k < H .n
+  column-in = clear-below H (o .sized .whole) (o .clear)
+
+  pub column-below : (i k : ℕ) → i < H .m → k < H .rho → entry H i k < 1023
+  column-below i k l h = omega (arith, column-in i k l h, o .sized .sizes .n-most)
+
+  pub columns-ascend : (i k : ℕ) → i < H .m → suc k < H .rho → entry H i k < entry H i (suc k)
+  columns-ascend = clear-ascending H (o .sized .whole) (o .clear)

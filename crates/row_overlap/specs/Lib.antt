@@ -1,0 +1,4 @@
+-- What the contracts of `row_overlap` cite.
+pub mod Ordered
+pub mod Tallies
+pub mod Meeting

@@ -1,0 +1,19 @@
+-- Tallies: an array that counts, for each column, how often it came.
+--   Tally f k v     == v has for each column how many of f 0 .. f (k - 1) it is
+--   markAt H i v k  == what v has for the k-th column of row i
+-- Assumes nothing.
+use mathlib.Core.Path.{_≡_}
+use mathlib.Core.List.{List}
+use Prim.Native.Nat.{ℕ, _<_}
+use lib.ListN.{length, getD}
+use Rattle.counting.specs.Sum.{sum, same}
+use Rattle.matrix.specs.Code.{Matrix, entry}
+
+-- the array of the columns, each with how often it came
+pub record Tally (f : ℕ → ℕ) (k : ℕ) (v : List ℕ) : Type 0 where
+  pub long : length v ≡ 1023
+  pub each : (j : ℕ) → j < 1023 → getD v j 0 ≡ sum k (λ x. same (f x) j)
+
+-- the number counted for the k-th column of row i
+unfoldable pub markAt : Matrix → ℕ → List ℕ → ℕ → ℕ
+markAt H i v k = getD v (entry H i k) 0
