@@ -17,8 +17,8 @@ use Rattle.parity_check.specs.Check.{checkOf}
 use Rattle.parity_check.specs.Reading.{Accepted}
 use Rattle.parity_check.proofs.Reading.{is-accepted}
 use Rattle.quantiser.specs.Samples.{Choice, settingFits, firstNotFinite}
-use Rattle.iterative.specs.Iterative.{iterativeVerdict, iterativeOf}
-use Rattle.iterative.specs.Calls.{wrongLoan, Lent, Decoded, Answered}
+use Rattle.iterative_core.specs.Iterative.{iterativeVerdict, iterativeOf}
+use Rattle.iterative_core.specs.Calls.{wrongLoan, Lent, Decoded, Answered}
 
 -- loans that are as they should be
 pub loan-room : (n s b l : ℕ) → wrongLoan n s b l ≡ false → (s ≡ n) × (bytesFor n ≤ b) × (n ≤ l)

@@ -12,9 +12,9 @@ use Rattle.answers.specs.Paper.{Verdict, accepted, refused, Said, refusal, repo
 use Rattle.parity_check.specs.Code.{Matrix, failing}
 use Rattle.quantiser.specs.Samples.{Choice, largest, hardBit}
 use Rattle.majority_logic.specs.OneStep.{outcomeBy}
-use Rattle.iterative.specs.Iterative.{startOf, changedBits, endFrom, reportAt, iterativeVerdict, iterativeOf}
-use Rattle.iterative.specs.Stages.{Promised}
-use Rattle.iterative.proofs.Ends.{rounds-within, fails-at-limit}
+use Rattle.iterative_core.specs.Iterative.{startOf, changedBits, endFrom, reportAt, iterativeVerdict, iterativeOf}
+use Rattle.soft_rounds.specs.Stages.{Promised}
+use Rattle.soft_rounds.proofs.Ends.{rounds-within, fails-at-limit}
 
 -- ---- an outcome by the failing checks
 

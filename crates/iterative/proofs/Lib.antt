@@ -1,7 +1,7 @@
-pub mod Extrinsic
-pub mod Ends
+pub use Rattle.soft_rounds.proofs.Extrinsic
+pub use Rattle.soft_rounds.proofs.Ends
+pub use Rattle.soft_rounds.proofs.Holding
+pub use Rattle.soft_rounds.proofs.Running
+pub use Rattle.iterative_core.proofs.Finishing
 pub mod Answers
-pub mod Holding
-pub mod Running
-pub mod Finishing
 pub mod Answering

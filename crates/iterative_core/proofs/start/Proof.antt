@@ -1,8 +1,8 @@
--- `iterative::start` meets its contract: the levels of the samples lie in their range, so that they can be kept. Assumes nothing.
+-- `iterative_core::start` meets its contract: the levels of the samples lie in their range, so that they can be kept. Assumes nothing.
 use borrow.Author.Needs.{needs}
-use Rattle.iterative.proofs.Finishing.{filled-bounded, filled-started}
-use Rattle.iterative.proofs.start.Statement.{statement}
-use Rattle.iterative.proofs.start.Tie as tie
+use Rattle.iterative_core.proofs.Finishing.{filled-bounded, filled-started}
+use Rattle.iterative_core.proofs.start.Statement.{statement}
+use Rattle.iterative_core.proofs.start.Tie as tie
 
 fill-requires : tie.Need-fill-requires
 fill-requires c κs = search needs

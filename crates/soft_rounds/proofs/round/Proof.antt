@@ -1,9 +1,9 @@
--- `iterative::round` meets its contract: what `update` leaves are bits, so that their votes can be tallied. Assumes nothing.
+-- `soft_rounds::round` meets its contract: what `update` leaves are bits, so that their votes can be tallied. Assumes nothing.
 use borrow.Author.Needs.{needs}
 use Rattle.parity_check.specs.Shapes.{matrixOf}
-use Rattle.iterative.proofs.Running.{moved-word}
-use Rattle.iterative.proofs.round.Statement.{statement}
-use Rattle.iterative.proofs.round.Tie as tie
+use Rattle.soft_rounds.proofs.Running.{moved-word}
+use Rattle.soft_rounds.proofs.round.Statement.{statement}
+use Rattle.soft_rounds.proofs.round.Tie as tie
 
 cast-n : tie.Need-cast-n
 cast-n c = search needs

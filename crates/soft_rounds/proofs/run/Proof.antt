@@ -1,14 +1,14 @@
--- `iterative::run` meets its contract. The invariant, `Going`: the arrays hold the state after k rounds, the parities, the votes and the count
+-- `soft_rounds::run` meets its contract. The invariant, `Going`: the arrays hold the state after k rounds, the parities, the votes and the count
 -- of failing checks are those of its bits, and a check of every earlier state fails. Assumes nothing.
 use mathlib.Core.Path.{_≡_}
 use Prim.Native.Nat.{_-_}
 use native.Mathlib.Omega.{arith}
 use Rattle.parity_check.specs.Shapes.{matrixOf}
 use Rattle.running_tally.proofs.Keeping.{zero-word, zero-parities}
-use Rattle.iterative.specs.Runs.{stateOf}
-use Rattle.iterative.proofs.Running.{Going, going-starts, going-ready, going-ends, going-step}
-use Rattle.iterative.proofs.run.Statement.{statement}
-use Rattle.iterative.proofs.run.Tie as tie
+use Rattle.soft_rounds.specs.Runs.{stateOf}
+use Rattle.soft_rounds.proofs.Running.{Going, going-starts, going-ready, going-ends, going-step}
+use Rattle.soft_rounds.proofs.run.Statement.{statement}
+use Rattle.soft_rounds.proofs.run.Tie as tie
 
 abbrev Inv-loop : tie.InvT-loop
 Inv-loop shape list index limit middle bits₀ levels₀ parity₀ votes₀ failing₀ k₀ bits levels parity votes failing k = Going (matrixOf shape list) middle limit (stateOf middle bits₀ levels₀) bits levels parity votes failing k

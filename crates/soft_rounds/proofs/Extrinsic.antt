@@ -13,7 +13,7 @@ use Rattle.parity_check.specs.Code.{Matrix, entry, has, weight, fails}
 use Rattle.parity_check.specs.Reading.{Rows, Accepted}
 use Rattle.parity_check.proofs.Rows.{has-le}
 use Rattle.majority_logic.specs.Voting.{votes}
-use Rattle.iterative.specs.Rounds.{others, sign, extrinsic}
+use Rattle.soft_rounds.specs.Rounds.{others, sign, extrinsic}
 
 -- ---- a check's ones, without and with bit j
 

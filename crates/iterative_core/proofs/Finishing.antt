@@ -21,14 +21,14 @@ use Rattle.quantiser.proofs.Ranges.{fits-reads, largest-most, level-bound, hard
 use Rattle.majority_logic.specs.OneStep.{outcomeBy}
 use Rattle.soft_levels.specs.Levels.{biased, unbiased, Bounded, Biased, Restorable}
 use Rattle.soft_levels.proofs.Levels.{biased-le}
-use Rattle.iterative.specs.Rounds.{endOf}
-use Rattle.iterative.specs.Iterative.{startOf, changedBits, endFrom, reportAt, iterativeWord, iterativeLevels}
-use Rattle.iterative.specs.Stages.{stateAt, Alike, AlikeEnds}
-use Rattle.iterative.specs.Runs.{stateOf, Holds, Ready, Stopped, Ran}
-use Rattle.iterative.specs.Calls.{Lent, Started, Decoded}
-use Rattle.iterative.proofs.Ends.{levels-bound, end-state, ends-alike, failing-alike-end}
-use Rattle.iterative.proofs.Holding.{holds-word}
-use Rattle.iterative.proofs.Running.{holds-alike, alike-holds}
+use Rattle.soft_rounds.specs.Rounds.{endOf}
+use Rattle.iterative_core.specs.Iterative.{startOf, changedBits, endFrom, reportAt, iterativeWord, iterativeLevels}
+use Rattle.soft_rounds.specs.Stages.{stateAt, Alike, AlikeEnds}
+use Rattle.soft_rounds.specs.Runs.{stateOf, Holds, Ready, Stopped, Ran}
+use Rattle.iterative_core.specs.Calls.{Lent, Started, Decoded}
+use Rattle.soft_rounds.proofs.Ends.{levels-bound, end-state, ends-alike, failing-alike-end}
+use Rattle.soft_rounds.proofs.Holding.{holds-word}
+use Rattle.soft_rounds.proofs.Running.{holds-alike, alike-holds}
 
 -- ---- step 1
 

@@ -21,7 +21,7 @@ use Rattle.parity_check.specs.Code.{Matrix, failing}
 use Rattle.parity_check.specs.Check.{checkOf}
 use Rattle.quantiser.specs.Samples.{Choice, settingFits, largest, levelOf, hardBit, firstNotFinite}
 use Rattle.majority_logic.specs.OneStep.{outcomeBy}
-use Rattle.iterative.specs.Rounds.{State, state, End, endOf}
+use Rattle.soft_rounds.specs.Rounds.{State, state, End, endOf}
 
 -- "k = 0; z is the hard bits; R is the levels"
 unfoldable pub startOf : Choice → List Float → State

@@ -1,4 +1,4 @@
--- `iterative::changed_bits` meets its contract: the two fronts have the same length, of whole bytes. Assumes nothing.
+-- `iterative_core::changed_bits` meets its contract: the two fronts have the same length, of whole bytes. Assumes nothing.
 use mathlib.Core.Path.{_≡_, sym, ap, _∙_}
 use mathlib.Core.List.{List}
 use Prim.Native.Nat.{ℕ, _*_, _≤_}
@@ -6,8 +6,8 @@ use native.Mathlib.Omega.{arith}
 use borrow.Author.Needs.{needs}
 use lib.ListN.{length, take, length-take}
 use Rattle.packed_word.specs.Packed.{bitAt, bytesFor, distance}
-use Rattle.iterative.proofs.changed_bits.Statement.{statement}
-use Rattle.iterative.proofs.changed_bits.Tie as tie
+use Rattle.iterative_core.proofs.changed_bits.Statement.{statement}
+use Rattle.iterative_core.proofs.changed_bits.Tie as tie
 
 front : (k : ℕ) (w : List ℕ) → k ≤ length w → length (take k w) ≡ k
 front k w h = length-take k w ∙ omega arith

@@ -11,12 +11,12 @@ use Rattle.parity_check.specs.Code.{Matrix, Word}
 use Rattle.parity_check.specs.Reading.{Accepted}
 use Rattle.majority_logic.specs.Voting.{votes}
 use Rattle.majority_logic.proofs.Agreement.{votes-cong}
-use Rattle.iterative.specs.Rounds.{State, levelAfter, roundOf}
+use Rattle.soft_rounds.specs.Rounds.{State, levelAfter, roundOf}
 use Rattle.soft_levels.specs.Levels.{biased, nextLevel, aboveMiddle, Moved}
-use Rattle.iterative.specs.Runs.{Holds}
-use Rattle.iterative.proofs.Extrinsic.{extrinsic-zero, extrinsic-one}
+use Rattle.soft_rounds.specs.Runs.{Holds}
+use Rattle.soft_rounds.proofs.Extrinsic.{extrinsic-zero, extrinsic-one}
 use Rattle.soft_levels.proofs.Levels.{next-zero, next-one, above-biased, above-bit}
-use Rattle.iterative.proofs.Ends.{round-bound}
+use Rattle.soft_rounds.proofs.Ends.{round-bound}
 
 -- the bits of a state that arrays hold are a word
 pub holds-word : (H : Matrix) (L : ℕ) (z x : List ℕ) (s : State) → Holds (H .n) L z x s → Word H (at z)

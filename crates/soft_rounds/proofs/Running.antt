@@ -11,13 +11,13 @@ use Rattle.packed_word.specs.Steps.{at}
 use Rattle.parity_check.specs.Code.{Matrix, Word, failing}
 use Rattle.parity_check.proofs.Rows.{failing-cong}
 use Rattle.running_tally.specs.Parities.{Retallied}
-use Rattle.iterative.specs.Rounds.{State}
+use Rattle.soft_rounds.specs.Rounds.{State}
 use Rattle.soft_levels.specs.Levels.{biased, unbiased, Moved}
-use Rattle.iterative.specs.Stages.{stateAt, Alike}
-use Rattle.iterative.specs.Runs.{stateOf, Holds, Ready, Rounded, Ran}
+use Rattle.soft_rounds.specs.Stages.{stateAt, Alike}
+use Rattle.soft_rounds.specs.Runs.{stateOf, Holds, Ready, Rounded, Ran}
 use Rattle.soft_levels.proofs.Levels.{biased-le, biased-back, back-biased, above-middle-bit}
-use Rattle.iterative.proofs.Ends.{end-at}
-use Rattle.iterative.proofs.Holding.{holds-word, round-holds}
+use Rattle.soft_rounds.proofs.Ends.{end-at}
+use Rattle.soft_rounds.proofs.Holding.{holds-word, round-holds}
 
 -- ---- the state that arrays stand for
 

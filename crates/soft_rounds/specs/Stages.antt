@@ -9,7 +9,7 @@ use mathlib.Core.Path.{_≡_}
 use mathlib.Core.Logic.{_⊎_}
 use Prim.Native.Nat.{ℕ, zero, suc, _≤_, _<_}
 use Rattle.parity_check.specs.Code.{Matrix, failing}
-use Rattle.iterative.specs.Rounds.{State, roundOf, End}
+use Rattle.soft_rounds.specs.Rounds.{State, roundOf, End}
 
 -- the k-th iterate of a round
 unfoldable pub stateAt : Matrix → ℕ → State → ℕ → State

@@ -1,4 +1,4 @@
--- `iterative::middle_of` meets its contract: the shift loses nothing, and the largest level is a byte's. Assumes nothing.
+-- `iterative_core::middle_of` meets its contract: the shift loses nothing, and the largest level is a byte's. Assumes nothing.
 use mathlib.Core.Path.{_≡_, ap, _∙_}
 use Prim.Native.Nat.{ℕ, _-_, _*_, _^_, _%_, _≤_}
 use borrow.Author.Needs.{needs}
@@ -6,8 +6,8 @@ use native.Mathlib.Nat.{one-mul}
 use native.Mathlib.Omega.{arith}
 use lib.Dec.{lit<}
 use lib.Pow.{shl-exact, pow-pos, pow-mono}
-use Rattle.iterative.proofs.middle_of.Statement.{statement}
-use Rattle.iterative.proofs.middle_of.Tie as tie
+use Rattle.iterative_core.proofs.middle_of.Statement.{statement}
+use Rattle.iterative_core.proofs.middle_of.Tie as tie
 
 power : (c : tie.Start) → 1 * 2 ^ (c .args .bits - 1) % 2 ^ 16 ≡ 2 ^ (c .args .bits - 1)
 power c = shl-exact 1 (c .args .bits - 1) 16 (lit< tt) (omega arith) ∙ one-mul _

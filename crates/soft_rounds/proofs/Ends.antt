@@ -12,9 +12,9 @@ use Rattle.counting.proofs.Integers.{cut-bound}
 use Rattle.parity_check.specs.Code.{Matrix, failing}
 use Rattle.parity_check.specs.Reading.{Rows}
 use Rattle.parity_check.proofs.Rows.{failing-cong}
-use Rattle.iterative.specs.Rounds.{State, levelAfter, roundOf, End, endOf, extrinsic}
-use Rattle.iterative.specs.Stages.{stateAt, EndsAt, Alike, AlikeEnds}
-use Rattle.iterative.proofs.Extrinsic.{extrinsic-cong}
+use Rattle.soft_rounds.specs.Rounds.{State, levelAfter, roundOf, End, endOf, extrinsic}
+use Rattle.soft_rounds.specs.Stages.{stateAt, EndsAt, Alike, AlikeEnds}
+use Rattle.soft_rounds.proofs.Extrinsic.{extrinsic-cong}
 
 -- an end
 abbrev pub ends : ℕ → State → End

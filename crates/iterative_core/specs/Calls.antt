@@ -19,8 +19,8 @@ use Rattle.packed_word.specs.Packed.{bytesFor}
 use Rattle.parity_check.specs.Code.{Matrix}
 use Rattle.parity_check.specs.Reading.{Accepted}
 use Rattle.quantiser.specs.Samples.{Choice, settingFits, largest, levelsOf, hardBit, firstNotFinite}
-use Rattle.iterative.specs.Iterative.{startOf, endFrom, reportAt, iterativeVerdict, iterativeOf, iterativeWord, iterativeLevels}
-use Rattle.iterative.specs.Runs.{Holds}
+use Rattle.iterative_core.specs.Iterative.{startOf, endFrom, reportAt, iterativeVerdict, iterativeOf, iterativeWord, iterativeLevels}
+use Rattle.soft_rounds.specs.Runs.{Holds}
 
 -- "samples not exactly n .. or a written buffer shorter than needed"
 abbrev pub wrongLoan : ℕ → ℕ → ℕ → ℕ → Bool

@@ -15,7 +15,7 @@ use Rattle.packed_word.specs.Steps.{at}
 use Rattle.parity_check.specs.Code.{Matrix, Word, failing}
 use Rattle.parity_check.specs.Reading.{Accepted}
 use Rattle.running_tally.specs.Parities.{Retallied}
-use Rattle.iterative.specs.Rounds.{State, state, End, endOf}
+use Rattle.soft_rounds.specs.Rounds.{State, state, End, endOf}
 use Rattle.soft_levels.specs.Levels.{biased, unbiased, Moved}
 
 unfoldable pub stateOf : ℕ → List ℕ → List ℕ → State

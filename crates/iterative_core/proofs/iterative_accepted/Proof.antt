@@ -1,4 +1,4 @@
--- `iterative::iterative_accepted` meets its contract: the rounds run from the samples' bits and levels, and what is written and counted is
+-- `iterative_core::iterative_accepted` meets its contract: the rounds run from the samples' bits and levels, and what is written and counted is
 -- theirs at the end. Assumes nothing.
 use mathlib.Core.Path.{refl, _∙_}
 use Prim.Native.Nat.{ℕ}
@@ -6,9 +6,9 @@ use native.Mathlib.Omega.{arith}
 use borrow.Author.Needs.{needs}
 use lib.ListN.{length-replicate}
 use Rattle.quantiser.proofs.Ranges.{fits-reads}
-use Rattle.iterative.proofs.Finishing.{call-ready, call-hard, call-bits, call-restorable, call-decoded, packed-room}
-use Rattle.iterative.proofs.iterative_accepted.Statement.{statement}
-use Rattle.iterative.proofs.iterative_accepted.Tie as tie
+use Rattle.iterative_core.proofs.Finishing.{call-ready, call-hard, call-bits, call-restorable, call-decoded, packed-room}
+use Rattle.iterative_core.proofs.iterative_accepted.Statement.{statement}
+use Rattle.iterative_core.proofs.iterative_accepted.Tie as tie
 
 -- earlier places of the call, each from a later one
 abbrev entry : tie.After-start → tie.Start

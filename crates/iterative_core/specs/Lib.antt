@@ -1,0 +1,3 @@
+-- What the contracts of `iterative_core` cite.
+pub mod Iterative
+pub mod Calls

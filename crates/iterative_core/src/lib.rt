@@ -1,0 +1,80 @@
+// Iterative voting on a matrix, a setting and samples that are known to be accepted.
+// Rests on `soft_rounds`, `quantiser` and `packed_word`. Document 01: "Iterative voting".
+use answers::Report;
+use parity_check::Shape;
+use quantiser::Setting;
+ghost use mathlib.Core.Path.{_≡_};
+ghost use Prim.Native.Nat.{_*_, _≤_};
+ghost use lib.ListN.{length, take};
+ghost use Rattle.answers.specs.Answers.{reportOf};
+ghost use Rattle.packed_word.specs.Packed.{bitAt, bytesFor, distance};
+ghost use Rattle.parity_check.specs.Shapes.{matrixOf};
+ghost use Rattle.quantiser.specs.Samples.{mostBits, largest};
+ghost use Rattle.quantiser.specs.Settings.{choiceOf};
+ghost use Rattle.quantiser.specs.Filling.{Fillable};
+ghost use Rattle.column_index.specs.Index.{Indexed};
+ghost use Rattle.iterative_core.specs.Calls.{Lent, Started, Decoded};
+
+// L, the largest level of so many bits.
+pub fn middle_of(bits: u16) -> u8
+    requires { ⌜ (2 ≤ bits) × (bits ≤ mostBits) ⌝ }
+    ensures { λ r. ⌜ r ≡ largest bits ⌝ }
+{
+    let top = (1u16 << (bits - 1)) - 1;
+    top as u8
+}
+
+// At how many places the word differs from the packed hard bits. Both have the bytes of n bits at the front.
+fn changed_bits(word: &[u8], hard: &[u8], n: usize) -> u16
+    requires { ⌜ (n ≤ 1023) × (bytesFor n ≤ length (now word)) × (bytesFor n ≤ length (now hard)) ⌝ }
+    ensures { λ r. ⌜ r ≡ distance (8 * bytesFor n) (bitAt (take (bytesFor n) (now (word .entry)))) (bitAt (take (bytesFor n) (now (hard .entry)))) ⌝ }
+{
+    let bytes = (n + 7) / 8;
+    packed_word::differing(&word[..bytes], &hard[..bytes])
+}
+
+// Step 1: the samples' levels, written to the caller's buffer and kept for the rounds, and their hard bits.
+fn start(
+    setting: Setting,
+    samples: &[f32],
+    middle: u8,
+    levels: &mut [i8],
+    bits: &mut [u8; 1023],
+    kept: &mut [u8; 1023],
+)
+    requires { ⌜ Fillable (choiceOf setting) (now samples) (now levels) × (middle ≡ largest (setting .bits)) × (length (now kept) ≡ 1023) ⌝ }
+    ensures { λ _. ⌜ Started (choiceOf setting) (now (samples .entry)) (now (levels .entry)) (now (levels .exit)) (now (bits .exit)) (now (kept .exit)) ⌝ }
+{
+    let n = samples.len();
+    quantiser::fill(setting, samples, levels, bits);
+    soft_levels::bias(levels, n, middle, kept);
+}
+
+// The core, for a matrix, its index, a setting and samples that are known to be accepted.
+// Only this repository's crates call it, after asking the refusals.
+pub fn iterative_accepted(
+    shape: Shape,
+    list: &[u16],
+    index: &[u16],
+    setting: Setting,
+    samples: &[f32],
+    word: &mut [u8],
+    levels: &mut [i8],
+) -> Report
+    requires { ⌜ Lent (matrixOf shape (now list)) (choiceOf setting) (now samples) (now word) (now levels) × Indexed (matrixOf shape (now list)) (now index) ⌝ }
+    ensures { λ r. ⌜ Decoded (matrixOf shape (now (list .entry))) (choiceOf setting) (now (samples .entry)) (reportOf r) (now (word .entry)) (now (word .exit)) (now (levels .entry)) (now (levels .exit)) ⌝ }
+{
+    let n = shape.n as usize;
+    let limit = setting.limit;
+    let middle = middle_of(setting.bits);
+    let mut bits = [0u8; 1023];
+    let mut kept = [0u8; 1023];
+    let mut hard = [0u8; 128];
+    start(setting, samples, middle, levels, &mut bits, &mut kept);
+    packed_word::pack_into(&bits, n, &mut hard);
+    let stop = soft_rounds::run(shape, list, index, limit, middle, &mut bits, &mut kept);
+    packed_word::pack_into(&bits, n, word);
+    soft_levels::unbias(&kept, n, middle, levels);
+    let changed = changed_bits(word, &hard, n);
+    votes::ended(stop.rounds, stop.failing, changed)
+}

@@ -1,0 +1,4 @@
+pub mod Extrinsic
+pub mod Ends
+pub mod Holding
+pub mod Running
