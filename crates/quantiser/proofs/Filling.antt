@@ -13,8 +13,8 @@ use lib.Seq.{getD-set-same, getD-set-other}
 use Rattle.counting.specs.Lists.{listed, over}
 use Rattle.counting.proofs.Writing.{listed-cong, over-none, over-more}
 use Rattle.packed_word.specs.Steps.{at}
-use Rattle.quantiser.specs.Samples.{Choice, magnitude, levelOf, levelsOf, hardBit}
-use Rattle.quantiser.specs.Scaling.{levelBy, levelAt, Scaled}
+use Rattle.sample_levels.specs.Samples.{Choice, magnitude, levelOf, levelsOf, hardBit}
+use Rattle.sample_levels.specs.Scaling.{levelBy, levelAt, Scaled}
 use Rattle.quantiser.specs.Filling.{Stored, Filled}
 use Rattle.quantiser.proofs.Ranges.{hard-bit-at}
 

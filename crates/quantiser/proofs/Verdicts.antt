@@ -18,7 +18,7 @@ use Rattle.answers.specs.Paper.{Verdict, accepted, refused, written}
 use Rattle.packed_word.specs.Packed.{bytesFor, pack}
 use Rattle.packed_word.specs.Steps.{at}
 use Rattle.packed_word.proofs.Packing.{pack-cong}
-use Rattle.quantiser.specs.Samples.{Choice, settingFits, levelsOf, hardBit, hardWord, notFinite, firstNotFinite, quantiseVerdict}
+use Rattle.sample_levels.specs.Samples.{Choice, settingFits, levelsOf, hardBit, hardWord, notFinite, firstNotFinite, quantiseVerdict}
 use Rattle.quantiser.specs.Ranges.{Acceptable}
 use Rattle.quantiser.specs.Filling.{tooShort, Filled, Quantised}
 use Rattle.quantiser.proofs.Ranges.{fits-reads, reads-fits, all-finite}

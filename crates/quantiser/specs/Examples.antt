@@ -10,7 +10,7 @@ use mathlib.Core.Bool.{Bool, true, false}
 use mathlib.Core.List.{List, [], _∷_}
 use lib.IntN.{ℤ, pos, negsuc}
 use lib.Ieee.{binary32, ofBits, ofFields, odd, lt, le}
-use Rattle.quantiser.specs.Samples.{Choice, stepFits, settingFits, nearest, magnitude, levelOf, hardOf}
+use Rattle.sample_levels.specs.Samples.{Choice, stepFits, settingFits, nearest, magnitude, levelOf, hardOf}
 
 pub record Given : Type 0 where
   pub bits : ℕ

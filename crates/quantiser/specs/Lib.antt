@@ -1,7 +1,7 @@
--- What the contracts of `quantiser` cite, and document 01's examples.
-pub mod Samples
+-- What the contracts of `quantiser` cite, and document 01's examples. The definitions of levels are passed on.
+pub use Rattle.sample_levels.specs.Samples
+pub use Rattle.sample_levels.specs.Scaling
 pub mod Settings
 pub mod Ranges
-pub mod Scaling
 pub mod Filling
 pub mod Examples

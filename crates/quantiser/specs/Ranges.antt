@@ -11,7 +11,7 @@ use lib.Ieee.{Float, nan}
 use lib.Ieee.Scale.{finite}
 use lib.ListN.{length, getD}
 use Rattle.packed_word.specs.Packed.{bytesFor}
-use Rattle.quantiser.specs.Samples.{Choice, mostBits, stepFits}
+use Rattle.sample_levels.specs.Samples.{Choice, mostBits, stepFits}
 
 pub record InRange (S : Choice) : Type 0 where
   pub least : 2 ≤ S .bits

@@ -3,7 +3,7 @@
 -- Assumes nothing.
 use Prim.Native.Nat.{ℕ}
 use lib.Ieee.{Float}
-use Rattle.quantiser.specs.Samples.{Choice}
+use Rattle.sample_levels.specs.Samples.{Choice}
 use Rattle.quantiser.specs.declared.Setting.{Setting}
 use Rattle.quantiser.specs.declared.Step.{Step}
 use Rattle.quantiser.specs.declared.Step.the-variants.{Level, FullScale}
@@ -18,3 +18,8 @@ stepOf (FullScale f) = f
 
 abbrev pub choiceOf : Setting → Choice
 choiceOf s = record { bits = s .bits; limit = s .limit; kind = kindOf (s .step); step = stepOf (s .step) }
+
+-- what a sample is multiplied by: 1 with a level step, the largest level t with a full scale
+abbrev pub gainBy : Step → ℕ → ℕ
+gainBy (Level d) t = 1
+gainBy (FullScale f) t = t

@@ -1,25 +1,24 @@
-// Samples to levels and hard bits, exactly.
-// Rests on `counting`, `answers` and `packed_word`. Document 01: "Samples and levels"; refusals 6, 7 and 8.
+// Samples to levels and hard bits, exactly: the setting, and all samples of a block.
+// Rests on `sample_levels`, `packed_word` and `answers`. Document 01: "Samples and levels"; refusals 6, 7 and 8.
 use answers::Checked;
 use answers::Refusal;
+use sample_levels::Cell;
+use sample_levels::Scale;
+use sample_levels::hard_bit;
+use sample_levels::is_finite;
+use sample_levels::level_by;
+use sample_levels::take_apart;
+use sample_levels::top_of;
 ghost use mathlib.Core.Path.{_≡_};
 ghost use mathlib.Core.Bool.{true};
-ghost use Prim.Native.Nat.{min, _-_, _*_, _^_, _<_, _≤_};
-ghost use lib.Dec.{T};
-ghost use lib.Ieee.Scale.{finite};
 ghost use Rattle.answers.specs.Answers.{verdictOf};
-ghost use Rattle.quantiser.specs.Samples.{mostBits, stepFits, settingFits, largest, nearest, signed, hardOf, firstNotFinite};
-ghost use Rattle.quantiser.specs.Settings.{choiceOf, stepOf};
-ghost use Rattle.quantiser.specs.Scaling.{gainBy, levelBy, Digits, Apart, Narrow, Scaled};
+ghost use Rattle.sample_levels.specs.Samples.{stepFits, settingFits, firstNotFinite};
+ghost use Rattle.sample_levels.specs.Scaling.{Narrow, Scaled};
+ghost use Rattle.quantiser.specs.Settings.{choiceOf, stepOf, gainBy};
 ghost use Rattle.quantiser.specs.Filling.{tooShort, Roomy, FilledBy, Fillable, Filled, Quantised};
 
-// A stored level, and the most bits that one may have.
-pub type Cell = i8;
-
+// The most bits that a level may have.
 pub const MOST_BITS: u16 = 8;
-
-// A sample half-way between two levels goes away from zero at 0, and toward zero at 1.
-const TIE: u64 = 0;
 
 // The step: a level step or a full scale.
 pub enum Step {
@@ -32,29 +31,6 @@ pub struct Setting {
     pub bits: u16,
     pub limit: u16,
     pub step: Step,
-}
-
-// A finite float: its sign, and its magnitude as sig * 2 ^ shift units of 2 ^ -149.
-struct Parts {
-    negative: bool,
-    sig: u64,
-    shift: u64,
-}
-
-// What the levels of one setting have in common: the gain, the largest level, and the step's magnitude as in `Parts`.
-struct Scale {
-    gain: u64,
-    top: u64,
-    sig: u64,
-    shift: u64,
-}
-
-// Whether a float is neither infinite nor a NaN: a NaN fails every comparison.
-pub fn is_finite(x: f32) -> bool
-    ensures { λ r. ⌜ r ≡ finite x ⌝ }
-{
-    let top = f32::from_bits(0x7f80_0000);
-    -top < x && x < top
 }
 
 // Whether a setting may have this step: from 2 ^ -20 to 2 ^ 20. A NaN fails here too.
@@ -93,13 +69,6 @@ pub fn setting_fits(s: Setting) -> bool
     step_fits(step_of(step))
 }
 
-// The hard bit comes from the sample and not from its level. Both zeros give 0.
-pub fn hard_bit(x: f32) -> u8
-    ensures { λ r. ⌜ r ≡ hardOf x ⌝ }
-{
-    if 0.0 < x { 1 } else { 0 }
-}
-
 // The place of the first sample that is not finite, or how many samples there are.
 pub fn first_not_finite(samples: &[f32]) -> usize
     ensures { λ r. ⌜ r ≡ firstNotFinite (now (samples .entry)) ⌝ }
@@ -112,95 +81,6 @@ pub fn first_not_finite(samples: &[f32]) -> usize
         i += 1;
     }
     i
-}
-
-// A float by its fields. Only a field of 0, of zeros and subnormals, has no leading one.
-fn take_apart(x: f32) -> Parts
-    requires { ⌜ T (finite x) ⌝ }
-    ensures { λ r. ⌜ Apart x (r .negative) (r .sig) (r .shift) ⌝ }
-{
-    let bits = f32::to_bits(x) as u64;
-    let negative = 0x8000_0000 <= bits;
-    let field = bits % 0x8000_0000 / 0x80_0000;
-    let digits = bits % 0x80_0000;
-    if field == 0 {
-        return Parts {
-            negative,
-            sig: digits,
-            shift: 0,
-        };
-    }
-    Parts {
-        negative,
-        sig: 0x80_0000 + digits,
-        shift: field - 1,
-    }
-}
-
-// n / d to the nearest whole number, at most `top`.
-fn capped(n: u64, d: u64, top: u64) -> u64
-    requires { ⌜ (n < 2 ^ 62) × (0 < d) × (d < 2 ^ 62) ⌝ }
-    ensures { λ r. ⌜ r ≡ min top (nearest n d) ⌝ }
-{
-    let q = (2 * n + d - TIE) / (2 * d);
-    if q < top { q } else { top }
-}
-
-// How far the shift `a` is above the shift `b`, at most 27 places.
-fn places(a: u64, b: u64) -> u64
-    ensures { λ r. ⌜ r ≡ min 27 (a - b) ⌝ }
-{
-    if a <= b {
-        return 0;
-    }
-    let k = a - b;
-    if k < 27 { k } else { 27 }
-}
-
-// The magnitude of a level: sample and step are shifted by what one has more than the other.
-// Past 26 places the sample is so large that the magnitude is the largest, or so small that it is 0,
-// so that 27 places give the same as more, and the numbers fit 64 bits.
-fn magnitude_of(s: Scale, y: Parts) -> u64
-    requires { ⌜ (Narrow (s .gain) (s .top) (s .sig)) × (Digits (y .sig) (y .shift)) ⌝ }
-    ensures { λ r. ⌜ r ≡ min (s .top) (nearest (s .gain * (y .sig * 2 ^ y .shift)) (s .sig * 2 ^ s .shift)) ⌝ }
-{
-    let gain = s.gain;
-    let top = s.top;
-    let step = s.sig;
-    let down = s.shift;
-    let sig = y.sig;
-    let up = y.shift;
-    let n = (gain * sig) << places(up, down);
-    let d = step << places(down, up);
-    capped(n, d, top)
-}
-
-// A magnitude with its sign. Minus 0 is 0.
-fn with_sign(negative: bool, n: u64) -> Cell
-    requires { ⌜ n < 2 ^ (mostBits - 1) ⌝ }
-    ensures { λ r. ⌜ r ≡ signed negative n ⌝ }
-{
-    let v = n as Cell;
-    if negative { -v } else { v }
-}
-
-// The level of a finite sample.
-fn level_by(s: Scale, x: f32) -> Cell
-    requires { ⌜ (Narrow (s .gain) (s .top) (s .sig)) × (T (finite x)) ⌝ }
-    ensures { λ r. ⌜ r ≡ levelBy (s .gain) (s .top) (s .sig * 2 ^ s .shift) x ⌝ }
-{
-    let y = take_apart(x);
-    let negative = y.negative;
-    let n = magnitude_of(s, y);
-    with_sign(negative, n)
-}
-
-// The largest level of so many bits.
-fn top_of(bits: u16) -> u64
-    requires { ⌜ (2 ≤ bits) × (bits ≤ mostBits) ⌝ }
-    ensures { λ r. ⌜ r ≡ largest bits ⌝ }
-{
-    (1u64 << (bits - 1)) - 1
 }
 
 // What a sample is multiplied by: a full scale is the largest level's, a level step that of level 1.

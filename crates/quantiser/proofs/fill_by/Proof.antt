@@ -5,11 +5,11 @@ use native.Mathlib.Omega.{arith}
 use borrow.Author.Needs.{needs, sfits-of}
 use mir.ValLaws.{toZ-ofZ}
 use lib.ListN.{length}
-use Rattle.quantiser.specs.Samples.{hardBit}
-use Rattle.quantiser.specs.Scaling.{levelAt}
+use Rattle.sample_levels.specs.Samples.{hardBit}
+use Rattle.sample_levels.specs.Scaling.{levelAt}
 use Rattle.quantiser.specs.Filling.{Stored}
 use Rattle.quantiser.proofs.Ranges.{all-finite}
-use Rattle.quantiser.proofs.Signs.{cell}
+use Rattle.sample_levels.proofs.Signs.{cell}
 use Rattle.quantiser.proofs.Filling.{stored-none, stored-more}
 use Rattle.quantiser.proofs.fill_by.Statement.{statement}
 use Rattle.quantiser.proofs.fill_by.Tie as tie

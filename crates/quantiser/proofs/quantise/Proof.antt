@@ -9,7 +9,7 @@ use lib.ListN.{length}
 use Rattle.counting.proofs.Searches.{first-le}
 use Rattle.answers.specs.Paper.{refused}
 use Rattle.packed_word.specs.Packed.{bytesFor}
-use Rattle.quantiser.specs.Samples.{settingFits, notFinite, firstNotFinite}
+use Rattle.sample_levels.specs.Samples.{settingFits, notFinite, firstNotFinite}
 use Rattle.quantiser.specs.Settings.{choiceOf}
 use Rattle.quantiser.specs.Filling.{tooShort}
 use Rattle.quantiser.proofs.Filling.{filled-bit}

@@ -7,12 +7,12 @@ use native.Mathlib.Omega.{arith}
 use lib.Dec.{eqb}
 use Rattle.quantiser.specs.declared.Step.{Step}
 use Rattle.quantiser.specs.declared.Step.the-variants.{Level, FullScale}
-use Rattle.quantiser.specs.Samples.{stepFits, largest}
+use Rattle.sample_levels.specs.Samples.{stepFits, largest}
 use Rattle.quantiser.specs.Settings.{choiceOf, kindOf}
 use Rattle.quantiser.specs.Ranges.{InRange}
-use Rattle.quantiser.specs.Scaling.{gainBy}
+use Rattle.quantiser.specs.Settings.{gainBy}
 use Rattle.quantiser.proofs.Ranges.{fits-reads, largest-some, largest-most}
-use Rattle.quantiser.proofs.Floats.{step-finite, step-lead, moved}
+use Rattle.sample_levels.proofs.Floats.{step-finite, step-lead, moved}
 use Rattle.quantiser.proofs.scale_of.Statement.{statement}
 use Rattle.quantiser.proofs.scale_of.Tie as tie
 

@@ -6,7 +6,7 @@ use borrow.Author.Tests.{le-leb, lt-leb}
 use lib.Dec.{leb}
 use Rattle.quantiser.specs.declared.Step.{Step}
 use Rattle.quantiser.specs.declared.Step.the-variants.{Level, FullScale}
-use Rattle.quantiser.specs.Samples.{stepFits, settingFits}
+use Rattle.sample_levels.specs.Samples.{stepFits, settingFits}
 use Rattle.quantiser.specs.Settings.{kindOf}
 use Rattle.quantiser.proofs.setting_fits.Statement.{statement}
 use Rattle.quantiser.proofs.setting_fits.Tie as tie

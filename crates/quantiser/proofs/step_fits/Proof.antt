@@ -2,7 +2,7 @@
 use mathlib.Core.Path.{sym, ap, _∙_}
 use mathlib.Core.Bool.{Bool, _&&_}
 use lib.Ieee.{binary32, le, ofBits}
-use Rattle.quantiser.specs.Samples.{stepFits}
+use Rattle.sample_levels.specs.Samples.{stepFits}
 use Rattle.quantiser.proofs.step_fits.Statement.{statement}
 use Rattle.quantiser.proofs.step_fits.Tie as tie
 

@@ -1,9 +1,9 @@
--- `quantiser::is_finite` meets its contract: a float between the two infinities is finite. Assumes nothing.
+-- `sample_levels::is_finite` meets its contract: a float between the two infinities is finite. Assumes nothing.
 use mathlib.Core.Path.{_∙_}
 use lib.Ieee.{ofBits, neg, nanBits}
-use Rattle.quantiser.proofs.Floats.{both-tests, first-test}
-use Rattle.quantiser.proofs.is_finite.Statement.{statement}
-use Rattle.quantiser.proofs.is_finite.Tie as tie
+use Rattle.sample_levels.proofs.Floats.{both-tests, first-test}
+use Rattle.sample_levels.proofs.is_finite.Statement.{statement}
+use Rattle.sample_levels.proofs.is_finite.Tie as tie
 
 float-from-bits-top : tie.Need-float-from-bits-top
 unfolding nanBits

@@ -1,4 +1,4 @@
--- `quantiser::top_of` meets its contract: the shift loses nothing. Assumes nothing.
+-- `sample_levels::top_of` meets its contract: the shift loses nothing. Assumes nothing.
 use mathlib.Core.Path.{_≡_, ap, _∙_}
 use Prim.Native.Nat.{ℕ, _-_, _*_, _^_, _%_}
 use borrow.Author.Needs.{needs}
@@ -6,8 +6,8 @@ use native.Mathlib.Nat.{one-mul}
 use native.Mathlib.Omega.{arith}
 use lib.Dec.{lit<}
 use lib.Pow.{shl-exact, pow-pos}
-use Rattle.quantiser.proofs.top_of.Statement.{statement}
-use Rattle.quantiser.proofs.top_of.Tie as tie
+use Rattle.sample_levels.proofs.top_of.Statement.{statement}
+use Rattle.sample_levels.proofs.top_of.Tie as tie
 
 power : (c : tie.Start) → 1 * 2 ^ (c .args .bits - 1) % 2 ^ 64 ≡ 2 ^ (c .args .bits - 1)
 power c = shl-exact 1 (c .args .bits - 1) 64 (lit< tt) (omega arith) ∙ one-mul _

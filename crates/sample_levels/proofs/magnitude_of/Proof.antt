@@ -1,12 +1,12 @@
--- `quantiser::magnitude_of` meets its contract: only the difference of the two shifts counts, and of that at most 27 places (`proofs/Nearest.antt`). Assumes nothing.
+-- `sample_levels::magnitude_of` meets its contract: only the difference of the two shifts counts, and of that at most 27 places (`proofs/Nearest.antt`). Assumes nothing.
 use mathlib.Core.Path.{sym, ap₂, _∙_}
 use Prim.Native.Nat.{ℕ, min, _*_, _^_, _≤_}
 use borrow.Author.Needs.{needs}
 use native.Mathlib.Omega.{arith}
-use Rattle.quantiser.specs.Samples.{nearest}
-use Rattle.quantiser.proofs.Nearest.{product, shifted, sample-shl, sample-lt, step-shl, step-lt, step-pos}
-use Rattle.quantiser.proofs.magnitude_of.Statement.{statement}
-use Rattle.quantiser.proofs.magnitude_of.Tie as tie
+use Rattle.sample_levels.specs.Samples.{nearest}
+use Rattle.sample_levels.proofs.Nearest.{product, shifted, sample-shl, sample-lt, step-shl, step-lt, step-pos}
+use Rattle.sample_levels.proofs.magnitude_of.Statement.{statement}
+use Rattle.sample_levels.proofs.magnitude_of.Tie as tie
 
 mul-n : tie.Need-mul-n
 mul-n c = omega (arith, product (c .pre .0) (c .pre .1))

@@ -1,13 +1,13 @@
--- `quantiser::level_by` meets its contract: the sign and the units are those of the float taken apart. Assumes nothing.
+-- `sample_levels::level_by` meets its contract: the sign and the units are those of the float taken apart. Assumes nothing.
 use mathlib.Core.Path.{sym, ap, ap₂, _∙_}
 use Prim.Native.Nat.{ℕ, min, _*_, _^_}
 use borrow.Author.Needs.{needs, sfits-of}
 use mir.ValLaws.{toZ-ofZ}
-use Rattle.quantiser.specs.Samples.{nearest, signed}
-use Rattle.quantiser.specs.Scaling.{levelBy}
-use Rattle.quantiser.proofs.Signs.{cell}
-use Rattle.quantiser.proofs.level_by.Statement.{statement}
-use Rattle.quantiser.proofs.level_by.Tie as tie
+use Rattle.sample_levels.specs.Samples.{nearest, signed}
+use Rattle.sample_levels.specs.Scaling.{levelBy}
+use Rattle.sample_levels.proofs.Signs.{cell}
+use Rattle.sample_levels.proofs.level_by.Statement.{statement}
+use Rattle.sample_levels.proofs.level_by.Tie as tie
 
 take-apart-requires : tie.Need-take-apart-requires
 take-apart-requires c κs = search needs

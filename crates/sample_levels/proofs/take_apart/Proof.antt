@@ -1,4 +1,4 @@
--- `quantiser::take_apart` meets its contract: the fields of the pattern are those of the float (`proofs/Floats.antt`). Assumes nothing.
+-- `sample_levels::take_apart` meets its contract: the fields of the pattern are those of the float (`proofs/Floats.antt`). Assumes nothing.
 use mathlib.Core.Path.{_≡_, sym, subst}
 use borrow.Author.Needs.{needs}
 use native.Mathlib.Omega.{arith}
@@ -6,9 +6,9 @@ use lib.Dec.{T}
 use lib.Ieee.{Float, binary32, fits, ofBits, toBits}
 use lib.Ieee.Bits.{toBits-lt, ofBits-toBits}
 use lib.Ieee.Scale.{finite}
-use Rattle.quantiser.proofs.Floats.{moved, finite-no-nan, low-apart, high-apart}
-use Rattle.quantiser.proofs.take_apart.Statement.{statement}
-use Rattle.quantiser.proofs.take_apart.Tie as tie
+use Rattle.sample_levels.proofs.Floats.{moved, finite-no-nan, low-apart, high-apart}
+use Rattle.sample_levels.proofs.take_apart.Statement.{statement}
+use Rattle.sample_levels.proofs.take_apart.Tie as tie
 
 held : (c : tie.Start) → T (fits binary32 (c .args .x))
 held c = subst T (sym (c .good .0 .1)) tt

@@ -1,10 +1,10 @@
--- `quantiser::hard_bit` meets its contract: the code's test is the definition's. Assumes nothing.
+-- `sample_levels::hard_bit` meets its contract: the code's test is the definition's. Assumes nothing.
 use mathlib.Core.Path.{sym, ap}
 use mathlib.Core.Bool.{Bool, cond}
 use lib.Ieee.{ofBits}
-use Rattle.quantiser.specs.Samples.{hardOf}
-use Rattle.quantiser.proofs.hard_bit.Statement.{statement}
-use Rattle.quantiser.proofs.hard_bit.Tie as tie
+use Rattle.sample_levels.specs.Samples.{hardOf}
+use Rattle.sample_levels.proofs.hard_bit.Statement.{statement}
+use Rattle.sample_levels.proofs.hard_bit.Tie as tie
 
 returns : tie.Need-returns
 unfolding ofBits hardOf

@@ -1,5 +1,4 @@
--- How one level is computed: the contracts between the quantiser's own functions.
---   gainBy k t           == what the sample is multiplied by: 1 with a level step, the largest level t with a full scale
+-- How one level is computed: the contracts between the functions below the quantiser.
 --   levelBy g t d x      == the level of x with the gain g, the largest level t and a step of d units
 --   levelAt g t d xs j   == that of sample j
 --   Digits n k           == n has at most 24 digits, and has 24 unless the shift k is 0
@@ -14,13 +13,7 @@ use Prim.Native.Nat.{ℕ, min, _-_, _*_, _^_, _≤_, _<_}
 use lib.IntN.{ℤ}
 use lib.Ieee.{Float, nan}
 use lib.ListN.{getD}
-use Rattle.quantiser.specs.Samples.{Choice, units, negative, mostBits, largest, gain, nearest, signed}
-use Rattle.quantiser.specs.declared.Step.{Step}
-use Rattle.quantiser.specs.declared.Step.the-variants.{Level, FullScale}
-
-abbrev pub gainBy : Step → ℕ → ℕ
-gainBy (Level d) t = 1
-gainBy (FullScale f) t = t
+use Rattle.sample_levels.specs.Samples.{Choice, units, negative, mostBits, largest, gain, nearest, signed}
 
 unfoldable pub levelBy : ℕ → ℕ → ℕ → Float → ℤ
 levelBy g t d x = signed (negative x) (min t (nearest (g * units x) d))

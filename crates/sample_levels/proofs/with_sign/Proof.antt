@@ -1,4 +1,4 @@
--- `quantiser::with_sign` meets its contract: minus a number below half the cell is that number with the other sign. Assumes nothing.
+-- `sample_levels::with_sign` meets its contract: minus a number below half the cell is that number with the other sign. Assumes nothing.
 use mathlib.Core.Path.{sym, ap, _∙_}
 use mathlib.Core.Bool.{Bool}
 use borrow.Author.Needs.{needs}
@@ -7,10 +7,10 @@ use native.Mathlib.Nat.{lt-of-lt-of-le}
 use lib.Dec.{lit≤}
 use mir.Val.{hbits}
 use mir.ValLaws.{toZ-pos}
-use Rattle.quantiser.specs.Samples.{signed}
-use Rattle.quantiser.proofs.Signs.{cell, minus-fits, minus-back}
-use Rattle.quantiser.proofs.with_sign.Statement.{statement}
-use Rattle.quantiser.proofs.with_sign.Tie as tie
+use Rattle.sample_levels.specs.Samples.{signed}
+use Rattle.sample_levels.proofs.Signs.{cell, minus-fits, minus-back}
+use Rattle.sample_levels.proofs.with_sign.Statement.{statement}
+use Rattle.sample_levels.proofs.with_sign.Tie as tie
 
 room : (c : tie.Start) → c .args .n < 2 ^ hbits cell
 room c = lt-of-lt-of-le (c .pre) (lit≤ tt)

@@ -1,9 +1,9 @@
--- `quantiser::capped` meets its contract: the code is the definition of `nearest`, cut at the top. Assumes nothing.
+-- `sample_levels::capped` meets its contract: the code is the definition of `nearest`, cut at the top. Assumes nothing.
 use borrow.Author.Needs.{needs}
 use native.Mathlib.Omega.{arith}
-use Rattle.quantiser.specs.Samples.{nearest}
-use Rattle.quantiser.proofs.capped.Statement.{statement}
-use Rattle.quantiser.proofs.capped.Tie as tie
+use Rattle.sample_levels.specs.Samples.{nearest}
+use Rattle.sample_levels.proofs.capped.Statement.{statement}
+use Rattle.sample_levels.proofs.capped.Tie as tie
 
 mul-q : tie.Need-mul-q
 mul-q c = search needs

@@ -11,8 +11,8 @@ use lib.Ieee.Fits.{down-pos, and-l, and-r}
 use lib.Ieee.Exact.{HasValue, odd-sign}
 use lib.Ieee.Positive.{positive, num, den, den-pos, own-value, positive-finite, between, values-of-le}
 use lib.Ieee.Scale.{finite}
-use Rattle.quantiser.specs.Samples.{units, stepFits}
-use Rattle.quantiser.specs.Scaling.{Digits, Apart}
+use Rattle.sample_levels.specs.Samples.{units, stepFits}
+use Rattle.sample_levels.specs.Scaling.{Digits, Apart}
 
 -- ---- the two tests of `is_finite`
 

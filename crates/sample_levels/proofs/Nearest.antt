@@ -7,8 +7,8 @@ use native.Mathlib.Omega.{arith}
 use lib.Dec.{lit≤}
 use lib.Arith.{mul-pred, digits-div}
 use lib.Pow.{pow-add, pow-pos, pow-mono, shl-lt, shl-exact}
-use Rattle.quantiser.specs.Samples.{tie, nearest}
-use Rattle.quantiser.specs.Scaling.{Digits, Narrow}
+use Rattle.sample_levels.specs.Samples.{tie, nearest}
+use Rattle.sample_levels.specs.Scaling.{Digits, Narrow}
 
 -- c times as much, less a tie, is c times as much as what is less a tie, and something below c
 shrink : (x c t : ℕ) → 0 < c → t ≤ 1 → (x * c - t) / c ≡ x - t
