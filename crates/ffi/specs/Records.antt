@@ -14,9 +14,10 @@ use lib.IntN.{ℤ}
 use lib.ListN.{length, getD}
 use Rattle.counting.specs.Lists.{over}
 use Rattle.answers.specs.Paper.{Said, refusal, report}
-use Rattle.session.specs.Record.{Record}
-use Rattle.session.specs.Sessions.{knownState}
-use Rattle.session.specs.Steps.{Held, Left}
+use Rattle.session_record.specs.Record.{Record}
+use Rattle.session_record.specs.Sessions.{knownState}
+use Rattle.session_asking.specs.Asked.{Held}
+use Rattle.session_rounds.specs.Steps.{Left}
 use Rattle.ffi.specs.Codes.{codeOf}
 
 -- state, b, round limit, k, n, m, rho, gamma

@@ -8,8 +8,8 @@ use answers::Report;
 use parity_check::Shape;
 use quantiser::Setting;
 use quantiser::Step;
-use session::Session;
-use session::Turn;
+use session_record::Session;
+use session_record::Turn;
 ghost use mathlib.Core.Path.{_≡_};
 ghost use Prim.Native.Nat.{_+_, _*_, _≤_};
 ghost use lib.ListN.{length};
@@ -23,9 +23,9 @@ ghost use Rattle.syndrome.specs.Failing.{failingOf};
 ghost use Rattle.majority_logic.specs.OneStep.{oneStepReport, oneStepVerdict, oneStepOf, oneStepWord};
 ghost use Rattle.one_step.specs.Stepped.{Lent};
 ghost use Rattle.quantiser.specs.Settings.{choiceOf};
-ghost use Rattle.session.specs.Sessions.{recordOf};
-ghost use Rattle.session.specs.Stepping.{lent};
-ghost use Rattle.session.specs.Steps.{openOf, stepOf};
+ghost use Rattle.session_record.specs.Sessions.{recordOf};
+ghost use Rattle.session_asking.specs.Asked.{lent};
+ghost use Rattle.session_rounds.specs.Steps.{openOf, stepOf};
 ghost use Rattle.ffi.specs.Codes.{codeOf, Small};
 ghost use Rattle.ffi.specs.Records.{recordIn, cellsOf, onRecord, writtenBy, CalledAs};
 ghost use Rattle.ffi.specs.Settings.{choice, StandsFor, QuantisedAs, DecodedAs};
@@ -200,7 +200,7 @@ fn session_in(cells: &[u16]) -> Session
     requires { ⌜ length (now cells) ≡ 8 ⌝ }
     ensures { λ r. ⌜ recordOf r ≡ recordIn (now (cells .entry)) ⌝ }
 {
-    let state = session::state_of(cells[0]);
+    let state = session_record::state_of(cells[0]);
     Session {
         state,
         bits: cells[1],
@@ -231,7 +231,7 @@ fn session_out(s: Session, cells: &mut [u16])
     ensures { λ _. ⌜ now (cells .exit) ≡ over (cellsOf (recordOf s)) (now (cells .entry)) ⌝ }
 {
     let state = s.state;
-    let number = session::number_of(state);
+    let number = session_record::number_of(state);
     let from = [number, s.bits, s.limit, s.k, s.n, s.m, s.rho, s.gamma];
     copy_front(&from, cells);
 }

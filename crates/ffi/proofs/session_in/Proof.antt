@@ -3,7 +3,6 @@ use mathlib.Core.Path.{ap}
 use mathlib.Core.List.{List}
 use Prim.Native.Nat.{ℕ}
 use lib.ListN.{getD}
-use Rattle.session.specs.Record.{Record}
 use borrow.Author.Needs.{needs}
 use Rattle.ffi.proofs.session_in.Statement.{statement}
 use Rattle.ffi.proofs.session_in.Tie as tie
