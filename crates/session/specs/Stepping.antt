@@ -1,6 +1,7 @@
 -- Stepping round by round, nothing altered in between. (Document 01, "Rounds one at a time"; demand 2.)
 --   stepsOf H w t l        == what t further steps leave, each lent what the last call left
 --   EndsAlike H S xs h     == the sequence ends with the word, levels and answer of the whole call
+--   SteppingIsWhole H S xs h   == so for an accepted opening
 --   Means H r z            == what the state of a record says of the word it stands for
 --   Ran limit r t          == a session whose record only its own calls change has the record r after t accepted steps
 --   Within limit r t       == it is within its round limit of accepted steps

@@ -56,10 +56,10 @@ pub fn open_copy(
 ) -> Turn
     ensures { λ r. ⌜ Leaves (openOf (matrixOf shape (now (list .entry))) (choiceOf setting) (now (samples .entry)) (heldOf session (now (word .entry)) (now (levels .entry)))) (r .answer) (r .session) (now (word .exit)) (now (levels .exit)) ⌝ }
 {
-    let mut record = session;
-    let answer = open(&mut record, shape, list, setting, samples, word, levels);
+    let mut opened = session;
+    let answer = open(&mut opened, shape, list, setting, samples, word, levels);
     Turn {
-        session: record,
+        session: opened,
         answer,
     }
 }
@@ -75,10 +75,10 @@ pub fn step_copy(
 ) -> Turn
     ensures { λ r. ⌜ Leaves (stepOf (matrixOf shape (now (list .entry))) (now (received .entry)) (heldOf session (now (word .entry)) (now (levels .entry)))) (r .answer) (r .session) (now (word .exit)) (now (levels .exit)) ⌝ }
 {
-    let mut record = session;
-    let answer = step(&mut record, shape, list, received, word, levels);
+    let mut stepped = session;
+    let answer = step(&mut stepped, shape, list, received, word, levels);
     Turn {
-        session: record,
+        session: stepped,
         answer,
     }
 }

@@ -1,6 +1,7 @@
 -- The session record. (Document 01, "Rounds one at a time".)
 --   Record            == state, b, round limit, k and the four sizes
 --   empty .. failed   == the numbers of the record's states
+--   recordFor         == a record for a matrix
 --   stateAfter        == the state in which a word with f failing checks leaves the record
 --   outcomeIn         == the outcome that an answer says of a state: 0 decoded, 1 failed, 2 working
 -- Assumes nothing.
