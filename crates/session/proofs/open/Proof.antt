@@ -1,4 +1,4 @@
--- `session::open` meets its contract: a walk of its MIR, by hand, which `gen_walk.py` wrote. The borrow of the `Session` is opened and the whole record is copied out; what the other
+-- `session::open` meets its contract: a walk of its MIR. The borrow of the `Session` is opened and the whole record is copied out; what the other
 -- parameters own goes to `open_value` as it came, at its own lifetimes, shares and ghost names; of the `Turn` that comes back `session` is stored behind the borrow, which is closed at it, and `answer` is the result.
 -- All that the proof knows of `open_value` is that it meets its contract. Assumes nothing.
 use mathlib.Core.Path.{_≡_, refl, ap}

@@ -1,4 +1,4 @@
--- `session::open_copy` meets its contract: a walk of its MIR, by hand, which a generator wrote. A local Session is lent to `open` for a lifetime that is made for the call, with the other
+-- `session::open_copy` meets its contract: a walk of its MIR. A local Session is lent to `open` for a lifetime that is made for the call, with the other
 -- parameters as they came; the lifetime is ended, and the local is back at the Session that `open` says. All that the proof knows of `open` is that it meets its contract. Assumes nothing.
 use mathlib.Core.Path.{_≡_, refl, ap, subst}
 use Prim.Native.Nat.{ℕ}

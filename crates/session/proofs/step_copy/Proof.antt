@@ -1,4 +1,4 @@
--- `session::step_copy` meets its contract: a walk of its MIR, by hand, which a generator wrote. A local Session is lent to `step` for a lifetime that is made for the call, with the other
+-- `session::step_copy` meets its contract: a walk of its MIR. A local Session is lent to `step` for a lifetime that is made for the call, with the other
 -- parameters as they came; the lifetime is ended, and the local is back at the Session that `step` says. All that the proof knows of `step` is that it meets its contract. Assumes nothing.
 use mathlib.Core.Path.{_≡_, refl, ap, subst}
 use Prim.Native.Nat.{ℕ}
