@@ -8,8 +8,8 @@ use mathlib.Core.List.{List, [], _∷_}
 use lib.ListN.{getD}
 use Rattle.counting.specs.Lists.{over}
 use Rattle.answers.specs.Paper.{Said, refusal, report}
-use Rattle.session.specs.Record.{Record}
-use Rattle.session.specs.Sessions.{knownState}
+use Rattle.session_record.specs.Record.{Record}
+use Rattle.session_record.specs.Sessions.{knownState}
 
 -- state, b, round limit, k, n, m, rho, gamma
 abbrev pub recordIn : List ℕ → Record

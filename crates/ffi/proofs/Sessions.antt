@@ -19,12 +19,14 @@ use Rattle.parity_check.specs.Check.{checkOf}
 use Rattle.parity_check.specs.Reading.{Accepted}
 use Rattle.quantiser.specs.Samples.{Choice, settingFits, hardBit}
 use Rattle.iterative.specs.Iterative.{startOf, changedBits}
-use Rattle.session.specs.Record.{Record}
-use Rattle.session.specs.Steps.{Held, Left, saysAt, openVerdict, openOf, stepVerdict, stepOf}
-use Rattle.session.specs.Sessions.{recordOf, steppedState, Leaves}
-use Rattle.session.specs.declared.Session.{Session}
-use Rattle.session.proofs.Asking.{accepted-open, accepted-step}
-use Rattle.session.proofs.Calls.{refused-open-keeps, refused-step-keeps, accepted-opens, accepted-steps}
+use Rattle.session_record.specs.Record.{Record}
+use Rattle.session_asking.specs.Asked.{Held, openVerdict, stepVerdict}
+use Rattle.session_rounds.specs.Steps.{Left, saysAt, openOf, stepOf}
+use Rattle.session_record.specs.Sessions.{recordOf}
+use Rattle.session_rounds.specs.Leaving.{steppedState, Leaves}
+use Rattle.session_record.specs.declared.Session.{Session}
+use Rattle.session_asking.proofs.Asking.{accepted-open, accepted-step}
+use Rattle.session_rounds.proofs.Leaving.{refused-open-keeps, refused-step-keeps, accepted-opens, accepted-steps}
 use Rattle.codes.specs.Codes.{codeOf, Small}
 use Rattle.codes.specs.Records.{cellsOf, writtenBy}
 use Rattle.codes.specs.Settings.{StandsFor}

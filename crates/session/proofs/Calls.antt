@@ -1,5 +1,4 @@
--- One call: what a refused one and an accepted one leave, what the state then says, and that a session ends within its round limit.
--- Assumes nothing.
+-- One call: what the state then says of the word, and that a session ends within its round limit. Assumes nothing.
 use mathlib.Core.Path.{_≡_, refl, ap, _∙_}
 use mathlib.Core.List.{List}
 use Prim.Native.Nat.{ℕ, suc, _≤_, _<_}
@@ -8,44 +7,23 @@ use borrow.Author.Tests.{eqb-true, eqb-false}
 use lib.Dec.{eqb}
 use lib.Ieee.{Float}
 use Rattle.counting.proofs.Searches.{cases}
-use Rattle.answers.specs.Paper.{accepted, refused, refusal}
+use Rattle.answers.specs.Paper.{accepted}
 use Rattle.packed_word.specs.Packed.{bitAt}
 use Rattle.parity_check.specs.Code.{Matrix, failing}
 use Rattle.parity_check.specs.Reading.{Rows}
 use Rattle.parity_check.proofs.Rows.{failing-cong}
 use Rattle.quantiser.specs.Samples.{Choice, largest}
-use Rattle.quantiser.proofs.Ranges.{hard-bit-at}
-use Rattle.iterative.specs.Rounds.{State, levelAfter, roundOf}
+use Rattle.iterative.specs.Rounds.{State}
 use Rattle.iterative.specs.Iterative.{startOf}
-use Rattle.soft_levels.proofs.Levels.{above-bit}
-use Rattle.session.specs.Record.{Record, working, decoded, failed, stateAfter}
-use Rattle.session.specs.Steps.{Held, heldAt, heldState, openVerdict, openOf, stepVerdict, stepOf}
-use Rattle.session.specs.Reading.{Steppable}
-use Rattle.session.specs.Stepping.{Means, lent, Ran, opened, stepped, step-refused, open-refused, Within}
-use Rattle.session.specs.Sessions.{openedLeft, steppedState, steppedLeft}
-use Rattle.session.proofs.Asking.{accepted-open, accepted-step}
+use Rattle.session_record.specs.Record.{Record, working, decoded, failed, stateAfter}
+use Rattle.session_asking.specs.Asked.{Held, lent, openVerdict, stepVerdict}
+use Rattle.session_asking.specs.Reading.{Steppable}
+use Rattle.session_rounds.specs.Steps.{heldAt, openOf, heldState, stepOf}
+use Rattle.session_rounds.specs.Leaving.{openedLeft, steppedState, steppedLeft}
+use Rattle.session.specs.Stepping.{Means, Ran, opened, stepped, step-refused, open-refused, Within}
+use Rattle.session_asking.proofs.Asking.{accepted-open, accepted-step}
+use Rattle.session_rounds.proofs.Leaving.{refused-open-keeps, refused-step-keeps, accepted-opens, accepted-steps, start-bits, round-bits}
 use Rattle.session.proofs.Buffers.{bits-back}
-
--- ---- what a call leaves
-
--- a refused call leaves everything, and says its refusal
-pub refused-open-keeps : (H : Matrix) (S : Choice) (xs : List Float) (h : Held) (k x : ℕ) → openVerdict H S xs h ≡ refused k x
-    → openOf H S xs h ≡ record { said = refusal k x; held = h }
-unfolding openOf
-refused-open-keeps H S xs h k x e = rw e
-
-pub refused-step-keeps : (H : Matrix) (w : List ℕ) (h : Held) (k x : ℕ) → stepVerdict H w h ≡ refused k x → stepOf H w h ≡ record { said = refusal k x; held = h }
-unfolding stepOf
-refused-step-keeps H w h k x e = rw e
-
--- what an accepted one leaves
-pub accepted-opens : (H : Matrix) (S : Choice) (xs : List Float) (h : Held) → openVerdict H S xs h ≡ accepted → openOf H S xs h ≡ openedLeft H S xs h
-unfolding openOf
-accepted-opens H S xs h e = rw e
-
-pub accepted-steps : (H : Matrix) (w : List ℕ) (h : Held) → stepVerdict H w h ≡ accepted → stepOf H w h ≡ steppedLeft H w h
-unfolding stepOf
-accepted-steps H w h e = rw e
 
 -- ---- what the state says
 
@@ -64,15 +42,6 @@ module _ (f k limit : ℕ) where
   after-failed e =
       cases (eqb f 0) (λ y. absurd (let q : 2 ≡ failed = rw y at e in omega arith))
       (λ n. cases (eqb k limit) (λ y. (eqb-true k limit y, eqb-false f 0 n)) (λ m. absurd (let q : 1 ≡ failed = rw (n, m) at e in omega arith)))
-
--- the bits of the states that calls write
-pub start-bits : (S : Choice) (xs : List Float) (j : ℕ) → startOf S xs .z j < 2
-unfolding startOf
-start-bits S xs j = hard-bit-at xs j
-
-pub round-bits : (H : Matrix) (L : ℕ) (s : State) (j : ℕ) → roundOf H L s .z j < 2
-unfolding roundOf
-round-bits H L s j = above-bit (levelAfter H L s j)
 
 -- the state of the record is that of the word beside it
 held-means : (H : Matrix) → Rows H → (bits limit k : ℕ) (s : State) (h : Held) → ((j : ℕ) → s .z j < 2) → k ≤ limit

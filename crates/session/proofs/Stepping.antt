@@ -23,14 +23,16 @@ use Rattle.iterative.specs.Rounds.{State, End, endOf}
 use Rattle.iterative.specs.Iterative.{startOf, changedBits, endFrom, reportAt, iterativeOf, iterativeWord, iterativeLevels}
 use Rattle.iterative.specs.Stages.{stateAt, EndsAt, Alike}
 use Rattle.iterative.proofs.Ends.{end-is, levels-bound, round-alike, failing-alike}
-use Rattle.session.specs.Record.{working, stateAfter, outcomeIn}
-use Rattle.session.specs.Steps.{Held, Left, saysAt, heldAt, heldState, openVerdict, openOf, stepOf}
-use Rattle.session.specs.Reading.{Openable, Steppable}
+use Rattle.session_record.specs.Record.{working, stateAfter, outcomeIn}
+use Rattle.session_asking.specs.Asked.{Held, openVerdict}
+use Rattle.session_asking.specs.Reading.{Openable, Steppable}
+use Rattle.session_rounds.specs.Steps.{Left, saysAt, heldAt, openOf, heldState, stepOf}
+use Rattle.session_rounds.specs.Leaving.{steppedState}
 use Rattle.session.specs.Stepping.{stepsOf, EndsAlike, SteppingIsWhole}
-use Rattle.session.specs.Sessions.{steppedState}
-use Rattle.session.proofs.Asking.{accepted-open, step-accepted}
+use Rattle.session_asking.proofs.Asking.{accepted-open, step-accepted}
+use Rattle.session_rounds.proofs.Leaving.{accepted-opens, accepted-steps, start-bits, round-bits}
 use Rattle.session.proofs.Buffers.{bits-back, spare-back, levels-back}
-use Rattle.session.proofs.Calls.{accepted-opens, accepted-steps, after-working, start-bits, round-bits}
+use Rattle.session.proofs.Calls.{after-working}
 
 -- the received word of the steps: the hard bits, packed
 module _ (xs : List Float) (n : ℕ) (e : length xs ≡ n) where

@@ -1,6 +1,2 @@
--- What the contracts of `session` cite.
-pub mod Record
-pub mod Steps
-pub mod Reading
+-- What the theorems of `session` cite.
 pub mod Stepping
-pub mod Sessions

@@ -1,6 +1,7 @@
 -- Stepping round by round, nothing altered in between. (Document 01, "Rounds one at a time"; demand 2.)
 --   stepsOf H w t l        == what t further steps leave, each lent what the last call left
 --   EndsAlike H S xs h     == the sequence ends with the word, levels and answer of the whole call
+--   SteppingIsWhole H S xs h   == so for an accepted opening
 --   Means H r z            == what the state of a record says of the word it stands for
 --   Ran limit r t          == a session whose record only its own calls change has the record r after t accepted steps
 --   Within limit r t       == it is within its round limit of accepted steps
@@ -15,8 +16,9 @@ use Rattle.answers.specs.Paper.{accepted, refused, written}
 use Rattle.parity_check.specs.Code.{Matrix, failing}
 use Rattle.quantiser.specs.Samples.{Choice, hardWord}
 use Rattle.iterative.specs.Iterative.{iterativeOf, iterativeWord, iterativeLevels}
-use Rattle.session.specs.Record.{Record, working, decoded, failed}
-use Rattle.session.specs.Steps.{Held, Left, openVerdict, openOf, stepVerdict, stepOf}
+use Rattle.session_record.specs.Record.{Record, working, decoded, failed}
+use Rattle.session_asking.specs.Asked.{Held, lent, openVerdict, stepVerdict}
+use Rattle.session_rounds.specs.Steps.{Left, openOf, stepOf}
 
 -- t steps after a call, each lent the received word w and what the last call left
 unfoldable pub stepsOf : Matrix → List ℕ → ℕ → Left → Left
@@ -43,10 +45,6 @@ pub record Means (H : Matrix) (r : Record) (z : ℕ → ℕ) : Type 0 where
   pub if-working : r .state ≡ working → (r .k < r .limit) × (0 < failing H z)
   pub if-decoded : r .state ≡ decoded → failing H z ≡ 0
   pub if-failed : r .state ≡ failed → (r .k ≡ r .limit) × (0 < failing H z)
-
--- a record, lent with a word and levels
-abbrev pub lent : Record → List ℕ → List ℤ → Held
-lent r word levels = record { rec = r; word = word; levels = levels }
 
 -- "A session whose record only its own calls change": the record goes from call to call,
 -- the matrix and the buffers lent to a call may be any; `limit` is the round limit of the opening

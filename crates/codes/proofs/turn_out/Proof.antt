@@ -2,7 +2,7 @@
 use mathlib.Core.Path.{sym, ap, _∙_}
 use Rattle.answers.specs.declared.Answer.{Answer}
 use Rattle.answers.specs.Answers.{saidOf}
-use Rattle.session.specs.Sessions.{recordOf}
+use Rattle.session_record.specs.Sessions.{recordOf}
 use Rattle.codes.specs.Records.{cellsOf, writtenBy}
 use borrow.Author.Needs.{needs}
 use Rattle.codes.proofs.turn_out.Statement.{statement}

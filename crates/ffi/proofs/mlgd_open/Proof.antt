@@ -4,10 +4,12 @@ use mathlib.Core.List.{List}
 use Prim.Native.Nat.{ℕ}
 use lib.IntN.{ℤ}
 use Rattle.parity_check.specs.Code.{Matrix, matrix}
-use Rattle.session.specs.Record.{Record}
-use Rattle.session.specs.Sessions.{recordOf, Leaves}
-use Rattle.session.specs.Steps.{Left, Held, openOf}
-use Rattle.session.specs.Stepping.{lent}
+use Rattle.session_record.specs.Record.{Record}
+use Rattle.session_record.specs.Sessions.{recordOf}
+use Rattle.session_rounds.specs.Leaving.{Leaves}
+use Rattle.session_asking.specs.Asked.{Held}
+use Rattle.session_rounds.specs.Steps.{Left, openOf}
+use Rattle.session_asking.specs.Asked.{lent}
 use Rattle.codes.specs.Codes.{Small}
 use Rattle.codes.specs.Records.{recordIn}
 use Rattle.quantiser.specs.Samples.{Choice}

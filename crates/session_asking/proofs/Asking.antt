@@ -1,0 +1,202 @@
+-- Opening and a step are accepted exactly where what they ask holds (specs/Reading.antt), both ways. Assumes nothing.
+use mathlib.Core.Path.{_≡_, refl, sym, _∙_}
+use mathlib.Core.Bool.{Bool, true, false, not, _&&_, _||_}
+use mathlib.Core.List.{List}
+use Prim.Native.Nat.{ℕ, _+_, _≤_, _<_}
+use native.Mathlib.Nat.{le-antisymm}
+use native.Mathlib.Omega.{arith}
+use borrow.Author.Tests.{ltb-false, leb-false, eqb-true, not-false, lt-ltb, le-ltb, lt-leb, eq-eqb}
+use lib.Dec.{T, eqb, leb, ltb}
+use lib.IntN.{ℤ, pos, natAbs}
+use lib.Ieee.{Float, nan}
+use lib.Ieee.Scale.{finite}
+use lib.ListN.{length, getD}
+use Rattle.counting.specs.Search.{any}
+use Rattle.counting.proofs.Searches.{never, and-left, and-right, or-left, or-right, any-step, any-none, any-at, any-clear, first-le, first-none}
+use Rattle.answers.specs.Paper.{Verdict, accepted, refused, refuseIf, refuseWhen, andThen}
+use Rattle.packed_word.specs.Packed.{bytesFor, spareSet}
+use Rattle.parity_check.specs.Code.{Matrix}
+use Rattle.parity_check.specs.Check.{checkOf}
+use Rattle.parity_check.specs.Reading.{Accepted}
+use Rattle.parity_check.proofs.Reading.{accepted-is, is-accepted}
+use Rattle.quantiser.specs.Samples.{Choice, mostBits, largest, notFinite, firstNotFinite}
+use Rattle.quantiser.proofs.Ranges.{fits-reads, reads-fits, all-finite}
+use Rattle.iterative.specs.Iterative.{iterativeVerdict}
+use Rattle.session_record.specs.Record.{Record, working, decoded, failed}
+use Rattle.session_asking.specs.Asked.{Held, unusable, ended, otherSizes, wrongBuffers, beyond, openVerdict, stepVerdict}
+use Rattle.session_asking.specs.Reading.{Openable, Usable, Steppable}
+use Rattle.session_asking.specs.Parts.{far, knownVerdict}
+
+-- ---- one link of a chain of refusals
+
+no-refusal : {k x : ℕ} → refused k x ≡ accepted → ⊥
+no-refusal e = let z : _≡_ {A = ℕ} 0 1 = cc in omega arith
+
+passed : (t : Bool) (k x : ℕ) (v : Verdict) → refuseIf t k x v ≡ accepted → (t ≡ false) × (v ≡ accepted)
+passed true k x v e = absurd (no-refusal e)
+passed false k x v e = (refl, e)
+
+passed-on : (v w : Verdict) → andThen v w ≡ accepted → (v ≡ accepted) × (w ≡ accepted)
+passed-on accepted w e = (refl, e)
+passed-on (refused k x) w e = absurd (no-refusal e)
+
+-- ---- a step
+
+-- refusals 20 and 21
+pub usable-is : (r : Record) → unusable r ≡ false → ended r ≡ false → Usable r
+unfolding unusable ended
+usable-is r u e =
+    let some : (eqb (r .state) working || (eqb (r .state) decoded || eqb (r .state) failed)) ≡ true = not-false _ (or-left _ _ u) in
+    let w : eqb (r .state) working ≡ true = only (eqb (r .state) working) _ some e in
+    let rest : (ltb (r .bits) 2 || (ltb mostBits (r .bits) || (ltb 255 (r .limit) || leb (r .limit) (r .k)))) ≡ false =
+    asked (eqb (r .state) working) _ w (or-right (not (eqb (r .state) working || (eqb (r .state) decoded || eqb (r .state) failed))) _ u) in
+    let rest₁ = or-right (ltb (r .bits) 2) _ rest in
+    let rest₂ = or-right (ltb mostBits (r .bits)) _ rest₁ in
+    record {
+      works = eqb-true (r .state) working w;
+      least = ltb-false (r .bits) 2 (or-left _ _ rest);
+      most = ltb-false mostBits (r .bits) (or-left _ _ rest₁);
+      limit = ltb-false 255 (r .limit) (or-left _ _ rest₂);
+      left = leb-false (r .limit) (r .k) (or-right (ltb 255 (r .limit)) _ rest₂);
+    }
+  where
+    only : (a b : Bool) → (a || b) ≡ true → b ≡ false → a ≡ true
+    only true b p q = refl
+    only false b p q = absurd (never (sym p ∙ q))
+
+    asked : (a b : Bool) → a ≡ true → (a && b) ≡ false → b ≡ false
+    asked true b p q = q
+    asked false b p q = absurd (never (sym p))
+
+is-usable : (r : Record) → Usable r → (unusable r ≡ false) × (ended r ≡ false)
+unfolding unusable ended
+is-usable r u = (
+  rw (u .works, le-ltb (r .bits) 2 (u .least), le-ltb mostBits (r .bits) (u .most), le-ltb 255 (r .limit) (u .limit), lt-leb (r .limit) (r .k) (u .left)),
+  rw (u .works),
+)
+
+module _ (H : Matrix) (w : List ℕ) (h : Held) where
+  pub accepted-step : stepVerdict H w h ≡ accepted → Steppable H w h
+  unfolding stepVerdict otherSizes wrongBuffers beyond
+  accepted-step e =
+      let p20 = passed _ 20 0 _ e in
+      let p21 = passed _ 21 0 _ (p20 .1) in
+      let p5 = passed-on _ _ (p21 .1) in
+      let p22 = passed _ 22 0 _ (p5 .1) in
+      let p7 = passed _ 7 0 _ (p22 .1) in
+      let p9 = passed _ 9 0 _ (p7 .1) in
+      let p23 = passed _ 23 0 _ (p9 .1) in
+      let sizes = not-false _ (p22 .0) in
+      let sizes₁ = and-right (eqb (H .n) (h .rec .n)) _ sizes in
+      let sizes₂ = and-right (eqb (H .m) (h .rec .m)) _ sizes₁ in
+      let buffers = or-right (not (eqb (length w) (bytesFor (H .n)))) _ (p7 .0) in
+      record {
+        usable = usable-is (h .rec) (p20 .0) (p21 .0);
+        matrix = accepted-is H (p5 .0);
+        same-n = eqb-true (H .n) (h .rec .n) (and-left _ _ sizes);
+        same-m = eqb-true (H .m) (h .rec .m) (and-left _ _ sizes₁);
+        same-rho = eqb-true (H .rho) (h .rec .rho) (and-left _ _ sizes₂);
+        same-gamma = eqb-true (H .gamma) (h .rec .gamma) (and-right (eqb (H .rho) (h .rec .rho)) _ sizes₂);
+        received = eqb-true (length w) (bytesFor (H .n)) (not-false _ (or-left _ _ (p7 .0)));
+        bytes = ltb-false (length (h .word)) (bytesFor (H .n)) (or-left _ _ buffers);
+        room = ltb-false (length (h .levels)) (H .n) (or-right (ltb (length (h .word)) (bytesFor (H .n))) _ buffers);
+        clear = p9 .0;
+        word-clear = or-left _ _ (p23 .0);
+        within = λ j l. ltb-false (largest (h .rec .bits)) (natAbs (getD (h .levels) j (pos 0))) (any-clear (far (largest (h .rec .bits)) (h .levels)) (H .n) (or-right (spareSet (H .n) (h .word)) _ (p23 .0)) j l);
+      }
+
+  pub step-accepted : Steppable H w h → stepVerdict H w h ≡ accepted
+  unfolding stepVerdict otherSizes wrongBuffers beyond
+  step-accepted s =
+      let u : (unusable (h .rec) ≡ false) × (ended (h .rec) ≡ false) =
+      is-usable (h .rec) (s .usable) in
+      rw (
+        u .0,
+        u .1,
+        is-accepted H (s .matrix),
+        eq-eqb (H .n) (h .rec .n) (s .same-n),
+        eq-eqb (H .m) (h .rec .m) (s .same-m),
+        eq-eqb (H .rho) (h .rec .rho) (s .same-rho),
+        eq-eqb (H .gamma) (h .rec .gamma) (s .same-gamma),
+        eq-eqb (length w) (bytesFor (H .n)) (s .received),
+        le-ltb (length (h .word)) (bytesFor (H .n)) (s .bytes),
+        le-ltb (length (h .levels)) (H .n) (s .room),
+        s .clear,
+        s .word-clear,
+        any-none (far (largest (h .rec .bits)) (h .levels)) (H .n) (λ j l. le-ltb (largest (h .rec .bits)) (natAbs (getD (h .levels) j (pos 0))) (s .within j l)),
+      )
+
+-- ---- an opening
+
+-- where every sample is finite, the search for one that is not comes to the end
+pub finite-first : (xs : List Float) → ((j : ℕ) → j < length xs → T (finite (getD xs j nan))) → firstNotFinite xs ≡ length xs
+unfolding notFinite
+finite-first xs h = first-none (notFinite xs) (length xs) (λ j l. passes (finite (getD xs j nan)) (h j l))
+  where
+    passes : (b : Bool) → T b → not b ≡ false
+    passes true t = refl
+    passes false t = absurd t
+
+module _ (H : Matrix) (S : Choice) (xs : List Float) (h : Held) where
+  pub accepted-open : openVerdict H S xs h ≡ accepted → Openable H S xs h
+  unfolding openVerdict iterativeVerdict
+  accepted-open e =
+      let p5 = passed-on _ _ e in
+      let p6 = passed _ 6 0 _ (p5 .1) in
+      let p7 = passed _ 7 0 _ (p6 .1) in
+      let p8 = passed _ 8 _ _ (p7 .1) in
+      let none : length xs ≤ firstNotFinite xs = ltb-false (firstNotFinite xs) (length xs) (p8 .0) in
+      let buffers = or-right (not (eqb (length xs) (H .n))) _ (p7 .0) in
+      record {
+        matrix = accepted-is H (p5 .0);
+        setting = fits-reads S (not-false _ (p6 .0));
+        samples = eqb-true (length xs) (H .n) (not-false _ (or-left _ _ (p7 .0)));
+        bytes = ltb-false (length (h .word)) (bytesFor (H .n)) (or-left _ _ buffers);
+        room = ltb-false (length (h .levels)) (H .n) (or-right (ltb (length (h .word)) (bytesFor (H .n))) _ buffers);
+        finite-all = all-finite xs (le-antisymm (first-le (notFinite xs) (length xs)) none);
+      }
+
+  pub open-accepted : Openable H S xs h → openVerdict H S xs h ≡ accepted
+  unfolding openVerdict iterativeVerdict
+  open-accepted o =
+      rw (
+        is-accepted H (o .matrix),
+        reads-fits S (o .setting),
+        eq-eqb (length xs) (H .n) (o .samples),
+        le-ltb (length (h .word)) (bytesFor (H .n)) (o .bytes),
+        le-ltb (length (h .levels)) (H .n) (o .room),
+        finite-first xs (o .finite-all),
+        le-ltb (length xs) (length xs) (omega arith),
+      )
+
+-- ---- a search for a level beyond ±L
+
+module _ (L : ℕ) (R : List ℤ) where
+  -- it is found
+  pub far-found : (n j x : ℕ) → j < n → x ≡ natAbs (getD R j (pos 0)) → L < x → true ≡ any (far L R) n
+  far-found n j x l e h = sym (any-at (far L R) n j l (lt-ltb L (natAbs (getD R j (pos 0))) (omega arith)))
+
+  -- the search goes on
+  pub far-more : (j x : ℕ) → any (far L R) j ≡ false → x ≡ natAbs (getD R j (pos 0)) → x ≤ L → any (far L R) (j + 1) ≡ false
+  far-more j x e q h = any-step (far L R) j ∙ rw (e, le-ltb L (natAbs (getD R j (pos 0))) (omega arith))
+
+-- ---- the first part of what a step asks: its record and its matrix
+
+abbrev record-part : Record → Verdict
+record-part r = andThen (refuseWhen 20 (unusable r) accepted) (refuseWhen 21 (ended r) accepted)
+
+abbrev matrix-part : Matrix → Record → Verdict
+matrix-part H r = andThen (checkOf H) (refuseWhen 22 (otherSizes H r) accepted)
+
+module _ (H : Matrix) (r : Record) (e : knownVerdict H r ≡ accepted) where
+  parts : (record-part r ≡ accepted) × (matrix-part H r ≡ accepted)
+  unfolding knownVerdict
+  parts = passed-on (record-part r) (matrix-part H r) e
+
+  pub known-usable : Usable r
+  known-usable =
+      let p = passed-on (refuseWhen 20 (unusable r) accepted) (refuseWhen 21 (ended r) accepted) (parts .0) in
+      usable-is r (passed (unusable r) 20 0 accepted (p .0) .0) (passed (ended r) 21 0 accepted (p .1) .0)
+
+  pub known-matrix : Accepted H
+  known-matrix = accepted-is H (passed-on (checkOf H) (refuseWhen 22 (otherSizes H r) accepted) (parts .1) .0)

@@ -1,0 +1,20 @@
+-- `session_asking::wrong_lengths` meets its contract: its tests are the definition's. Assumes nothing.
+use borrow.Author.Needs.{needs}
+use borrow.Author.Tests.{lt-ltb, le-ltb, eq-eqb, ne-eqb}
+use Rattle.session_asking.proofs.wrong_lengths.Statement.{statement}
+use Rattle.session_asking.proofs.wrong_lengths.Tie as tie
+
+returns : tie.Need-returns
+returns c = rw (ne-eqb _ _ (c .if1 .taken))
+
+add-if2 : tie.Need-add-if2
+add-if2 c = search needs
+
+returns-2 : tie.Need-returns-2
+returns-2 c = rw (eq-eqb _ _ (c .before .if1 .left), lt-ltb _ _ (c .if2 .taken))
+
+returns-3 : tie.Need-returns-3
+returns-3 c = rw (eq-eqb _ _ (c .before .if1 .left), le-ltb _ _ (c .if2 .left))
+
+pub wrong-lengths-spec : {M : Type 1} → statement M
+wrong-lengths-spec = tie.close (tie.spec returns add-if2 returns-2 returns-3)

@@ -1,0 +1,76 @@
+-- What opening and a step of a session ask. (Document 01, "Refused for the session".)
+--   Held               == the record, the word and the levels, as the caller keeps them
+--   lent r word levels == these three, as a call is lent them
+--   openVerdict, stepVerdict   == what opening and a step ask, in their order
+--   unusable, ended    == refusals 20 and 21
+--   otherSizes         == refusal 22
+--   wrongBuffers       == refusal 7 of a step
+--   beyond             == refusal 23
+-- Assumes nothing.
+use Prim.Native.Nat.{ℕ}
+use mathlib.Core.Bool.{Bool, not, _&&_, _||_}
+use mathlib.Core.List.{List}
+use lib.Dec.{eqb, leb, ltb}
+use lib.IntN.{ℤ, pos, natAbs}
+use lib.Ieee.{Float}
+use lib.ListN.{length, getD}
+use Rattle.counting.specs.Search.{any}
+use Rattle.answers.specs.Paper.{Verdict, accepted, refuseWhen, andThen}
+use Rattle.packed_word.specs.Packed.{bytesFor, spareSet}
+use Rattle.parity_check.specs.Code.{Matrix}
+use Rattle.parity_check.specs.Check.{checkOf}
+use Rattle.syndrome.specs.Failing.{wrongLength}
+use Rattle.quantiser.specs.Samples.{Choice, largest, mostBits}
+use Rattle.iterative.specs.Iterative.{iterativeVerdict}
+use Rattle.session_record.specs.Record.{Record, working, decoded, failed}
+
+-- "the record, word and levels": the caller's own, lent to each call
+pub record Held : Type 0 where
+  pub rec : Record
+  pub word : List ℕ
+  pub levels : List ℤ
+
+-- a record, lent with a word and levels
+abbrev pub lent : Record → List ℕ → List ℤ → Held
+lent r word levels = record { rec = r; word = word; levels = levels }
+
+-- "Opening asks 1 to 8"
+unfoldable pub openVerdict : Matrix → Choice → List Float → Held → Verdict
+openVerdict H S xs h = iterativeVerdict H S xs (length (h .word)) (length (h .levels))
+
+-- refusal 20: "the record is empty; or it is working with b or the round limit out of range or k not below the round limit"
+unfoldable pub unusable : Record → Bool
+unusable r =
+    not (eqb (r .state) working || (eqb (r .state) decoded || eqb (r .state) failed))
+    || (eqb (r .state) working
+    && (ltb (r .bits) 2 || (ltb mostBits (r .bits) || (ltb 255 (r .limit) || leb (r .limit) (r .k)))))
+
+-- refusal 21: "the record is decoded or failed"
+unfoldable pub ended : Record → Bool
+ended r = eqb (r .state) decoded || eqb (r .state) failed
+
+-- refusal 22: "sizes other than the record's"
+unfoldable pub otherSizes : Matrix → Record → Bool
+otherSizes H r =
+    not (eqb (H .n) (r .n) && (eqb (H .m) (r .m) && (eqb (H .rho) (r .rho) && eqb (H .gamma) (r .gamma))))
+
+-- refusal 7: "a received word not exactly its bytes, or a written buffer shorter than needed"
+unfoldable pub wrongBuffers : Matrix → List ℕ → Held → Bool
+wrongBuffers H w h =
+    wrongLength (H .n) w || (ltb (length (h .word)) (bytesFor (H .n)) || ltb (length (h .levels)) (H .n))
+
+-- refusal 23: "a spare place set in the current word, or a level beyond ±L among the first n"
+unfoldable pub beyond : Matrix → Record → Held → Bool
+beyond H r h =
+    spareSet (H .n) (h .word) || any (λ j. ltb (largest (r .bits)) (natAbs (getD (h .levels) j (pos 0)))) (H .n)
+
+-- "A step asks in this order: 20, 21, 1 to 5, 22, 7, 9, 23"
+unfoldable pub stepVerdict : Matrix → List ℕ → Held → Verdict
+stepVerdict H w h =
+    refuseWhen 20 (unusable (h .rec))
+    (refuseWhen 21 (ended (h .rec))
+    (andThen (checkOf H)
+    (refuseWhen 22 (otherSizes H (h .rec))
+    (refuseWhen 7 (wrongBuffers H w h)
+    (refuseWhen 9 (spareSet (H .n) w)
+    (refuseWhen 23 (beyond H (h .rec) h) accepted))))))

@@ -1,0 +1,3 @@
+-- What the contracts of `session_record` cite.
+pub mod Record
+pub mod Sessions

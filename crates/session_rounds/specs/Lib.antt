@@ -1,0 +1,3 @@
+-- What the contracts of `session_rounds` cite.
+pub mod Steps
+pub mod Leaving

@@ -1,0 +1,116 @@
+// Opening a session and one step of it, by value: the record in and out.
+// Rests on `session_asking`, `session_record`, `iterative`, `soft_levels`, `quantiser`, `votes` and `syndrome`. Document 01: "Rounds one at a time".
+use answers::Checked;
+use parity_check::Shape;
+use quantiser::Setting;
+use session_record::Session;
+use session_record::Turn;
+ghost use Rattle.parity_check.specs.Shapes.{matrixOf};
+ghost use Rattle.quantiser.specs.Settings.{choiceOf};
+ghost use Rattle.session_asking.specs.Asked.{lent};
+ghost use Rattle.session_asking.specs.Reading.{Openable, Steppable};
+ghost use Rattle.session_asking.specs.Parts.{heldOf};
+ghost use Rattle.session_rounds.specs.Steps.{openOf, stepOf};
+ghost use Rattle.session_rounds.specs.Leaving.{blank, openedLeft, steppedLeft, Leaves, Lent, Turned};
+
+// Steps 4 to 6 on the word and the levels lent, and how many checks of the new word fail.
+fn round_on(shape: Shape, list: &[u16], middle: u8, word: &mut [u8], levels: &mut [i8]) -> u16
+    requires { ⌜ Lent (matrixOf shape (now list)) middle (now word) (now levels) ⌝ }
+    ensures { λ r. ⌜ Turned (matrixOf shape (now (list .entry))) middle (now (word .entry)) (now (word .exit)) (now (levels .entry)) (now (levels .exit)) r ⌝ }
+{
+    let n = shape.n as usize;
+    let gamma = shape.gamma;
+    let top = 2 * (middle as u16);
+    let mut bits = [0u8; 1023];
+    let mut kept = [0u8; 1023];
+    let mut votes = [0u8; 1023];
+    packed_word::unpack(word, n, &mut bits);
+    soft_levels::bias(levels, n, middle, &mut kept);
+    votes::tally(shape, list, &bits, &mut votes);
+    soft_levels::update(&votes, n, gamma, middle, top, &mut bits, &mut kept);
+    packed_word::pack_into(&bits, n, word);
+    soft_levels::unbias(&kept, n, middle, levels);
+    syndrome::failing_count(shape, list, &bits)
+}
+
+// A step that no refusal applies to: one round, and what is counted on the word that it leaves.
+fn step_accepted(
+    session: Session,
+    shape: Shape,
+    list: &[u16],
+    received: &[u8],
+    word: &mut [u8],
+    levels: &mut [i8],
+) -> Turn
+    requires { ⌜ Steppable (matrixOf shape (now list)) (now received) (heldOf session (now word) (now levels)) ⌝ }
+    ensures { λ r. ⌜ Leaves (steppedLeft (matrixOf shape (now (list .entry))) (now (received .entry)) (heldOf session (now (word .entry)) (now (levels .entry)))) (r .answer) (r .session) (now (word .exit)) (now (levels .exit)) ⌝ }
+{
+    let n = shape.n as usize;
+    let need = (n + 7) / 8;
+    let bits = session.bits;
+    let limit = session.limit;
+    let k = session.k;
+    let middle = iterative::middle_of(bits);
+    let failing = round_on(shape, list, middle, word, levels);
+    let changed = packed_word::differing(&word[..need], received);
+    session_record::after_round(shape, bits, limit, k + 1, failing, changed)
+}
+
+// One step of a session, by value: the record in and out. A refused step hands the record back.
+pub fn step_value(
+    session: Session,
+    shape: Shape,
+    list: &[u16],
+    received: &[u8],
+    word: &mut [u8],
+    levels: &mut [i8],
+) -> Turn
+    ensures { λ r. ⌜ Leaves (stepOf (matrixOf shape (now (list .entry))) (now (received .entry)) (heldOf session (now (word .entry)) (now (levels .entry)))) (r .answer) (r .session) (now (word .exit)) (now (levels .exit)) ⌝ }
+{
+    let asked = session_asking::ask_step(session, shape, list, received, word, levels);
+    match asked {
+        Checked::Accepted => step_accepted(session, shape, list, received, word, levels),
+        Checked::Refused(f) => session_record::refuse(session, f),
+    }
+}
+
+// An opening that no refusal applies to: levels and hard bits, and what is counted on them.
+fn open_accepted(
+    shape: Shape,
+    list: &[u16],
+    setting: Setting,
+    samples: &[f32],
+    word: &mut [u8],
+    levels: &mut [i8],
+) -> Turn
+    requires { ⌜ Openable (matrixOf shape (now list)) (choiceOf setting) (now samples) (lent blank (now word) (now levels)) ⌝ }
+    ensures { λ r. ⌜ Leaves (openedLeft (matrixOf shape (now (list .entry))) (choiceOf setting) (now (samples .entry)) (lent blank (now (word .entry)) (now (levels .entry)))) (r .answer) (r .session) (now (word .exit)) (now (levels .exit)) ⌝ }
+{
+    let n = shape.n as usize;
+    let bits = setting.bits;
+    let limit = setting.limit;
+    let mut cells = [0u8; 1023];
+    quantiser::fill(setting, samples, levels, &mut cells);
+    packed_word::pack_into(&cells, n, word);
+    let failing = syndrome::failing_count(shape, list, &cells);
+    session_record::after_round(shape, bits, limit, 0, failing, 0)
+}
+
+// Opens a session, by value: the record in and out. A refused opening hands the record back.
+pub fn open_value(
+    session: Session,
+    shape: Shape,
+    list: &[u16],
+    setting: Setting,
+    samples: &[f32],
+    word: &mut [u8],
+    levels: &mut [i8],
+) -> Turn
+    ensures { λ r. ⌜ Leaves (openOf (matrixOf shape (now (list .entry))) (choiceOf setting) (now (samples .entry)) (heldOf session (now (word .entry)) (now (levels .entry)))) (r .answer) (r .session) (now (word .exit)) (now (levels .exit)) ⌝ }
+{
+    let asked = session_asking::ask_open(shape, list, setting, samples, word.len(), levels.len());
+    match asked {
+        Checked::Accepted => open_accepted(shape, list, setting, samples, word, levels),
+        Checked::Refused(f) => session_record::refuse(session, f),
+    }
+}
