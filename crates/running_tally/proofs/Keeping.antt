@@ -1,21 +1,23 @@
 -- What is turned over makes the parities of one word those of another, and they give its votes. Assumes nothing.
 use mathlib.Core.Path.{_≡_, refl, sym, ap, _∙_}
 use mathlib.Core.List.{List}
+use mathlib.Core.Logic.{inl, inr}
 use Prim.Native.Nat.{ℕ, zero, suc, _+_, _*_, _-_, _%_, _≤_, _<_}
 use native.Mathlib.Nat.{mul-le-mul-right, mul-comm}
 use native.Mathlib.Omega.{arith}
-use lib.ListN.{length, replicate, length-replicate}
+use lib.ListN.{length, set, replicate, length-set, length-replicate}
 use Rattle.counting.specs.Sum.{sum, differ}
 use Rattle.counting.proofs.Sums.{sum-cong, sum-add, sum-mul, sum-zero}
-use Rattle.counting.proofs.Writing.{zeros}
+use Rattle.counting.proofs.Writing.{stored, zeros}
 use Rattle.packed_word.specs.Steps.{at}
 use Rattle.parity_check.specs.Code.{Matrix, entry, has, Word, fails}
 use Rattle.parity_check.specs.Reading.{Accepted}
 use Rattle.parity_check.proofs.Rows.{few-entries, row-sum}
-use Rattle.syndrome.specs.Places.{Part, Places}
+use Rattle.syndrome.specs.Places.{Part, rowFails, Places}
+use Rattle.syndrome.proofs.Parity.{row-fails, row-bit}
 use Rattle.votes.specs.Tallies.{among}
 use Rattle.column_index.specs.Index.{Indexed}
-use Rattle.running_tally.specs.Parities.{Bits, Turned, flips, Columns, Parities}
+use Rattle.running_tally.specs.Parities.{Bits, Turned, flips, Columns, RowParities, Parities}
 use Rattle.running_tally.proofs.Turning.{turned-bits}
 
 -- places by a test that agrees below m
@@ -80,10 +82,36 @@ module _ (H : Matrix) (a : Accepted H) (x : List ℕ) (d : Indexed H x) where
           each = λ i h. t .each i ∙ ap (λ (y : ℕ). (y + flips x (H .gamma) z c (H .n) i) % 2) (k .each i h) ∙ turned-fails i h;
         }
 
-    -- the listed rows are the failing checks
-    pub failing-places : (p p′ : List ℕ) → Parities H z p → Turned (flips x (H .gamma) z c (H .n)) p p′ → (l : List ℕ) (t : ℕ) → Places (at p′) (H .m) l t
-        → Places (fails H c) (H .m) l t
-    failing-places p p′ k u l t = places-cong (at p′) (fails H c) (H .m) l t (turned-parities p p′ k u .each)
+-- the rows that are listed by their parities are the failing checks
+pub failing-places : (H : Matrix) (z : ℕ → ℕ) (p : List ℕ) → Parities H z p → (l : List ℕ) (t : ℕ) → Places (at p) (H .m) l t → Places (fails H z) (H .m) l t
+failing-places H z p k l t = places-cong (at p) (fails H z) (H .m) l t (k .each)
+
+-- ---- all rows anew
+
+pub rows-none : (l : List ℕ) (rho : ℕ) (z : ℕ → ℕ) (p : List ℕ) → Bits p → RowParities l 0 rho z p
+rows-none l rho z p b = record { bits = b; each = λ i h. absurd (omega arith) }
+
+-- one row more
+pub rows-step : (l : List ℕ) (i rho : ℕ) (z : ℕ → ℕ) (p : List ℕ) (x : ℕ) → i < 1023 → x ≡ rowFails l rho z i → RowParities l i rho z p
+    → RowParities l (i + 1) rho z (set p i x)
+rows-step l i rho z p x h e r =
+    record {
+      bits = record {
+        long = length-set p i x ∙ r .bits .long;
+        bit = λ k. elim (stored p i x k in-p) [ inl q ↦ omega (arith, q .0, e, row-bit l rho z i) | inr q ↦ omega (arith, q .0, r .bits .bit k) ];
+      };
+      each = λ k g. elim (stored p i x k in-p) [
+        | inl q ↦ q .0 ∙ e ∙ ap (rowFails l rho z) (sym (q .1))
+        | inr q ↦ q .0 ∙ r .each k (omega (arith, q .1))
+      ];
+    }
+  where
+    in-p : i < length p
+    in-p = omega (arith, h, r .bits .long)
+
+-- they are the checks of the matrix
+pub rows-parities : (H : Matrix) (z : ℕ → ℕ) (p : List ℕ) → RowParities (H .list) (H .m) (H .rho) z p → Parities H z p
+rows-parities H z p r = record { bits = r .bits; each = λ i h. r .each i h ∙ ap (λ (f : ℕ → ℕ). f i) (row-fails H z) }
 
 -- the parities of a word of zeros
 pub zero-parities : (H : Matrix) → Parities H (at (replicate 1023 0)) (replicate 1023 0)

@@ -4,6 +4,7 @@
 --   turns x from count a b   == how often a part of the index turns a row where a bit was a and is b
 --   flips x gamma a b n      == how often the columns below n turn a row where the word was a and is b
 --   Columns x n gamma        == the index holds a part of gamma rows for each column below n
+--   RowParities l m rho z p  == p holds the parity of the bits at each of m rows of the list l
 --   Parities H z p           == p holds the parity of each check of the word z
 --   Retallied H z p v f      == p are the parities, v the votes and f the failing checks of the word z
 -- Assumes nothing.
@@ -14,7 +15,7 @@ use lib.ListN.{length}
 use Rattle.counting.specs.Sum.{sum, differ}
 use Rattle.packed_word.specs.Steps.{at}
 use Rattle.parity_check.specs.Code.{Matrix, fails}
-use Rattle.syndrome.specs.Places.{Part}
+use Rattle.syndrome.specs.Places.{Part, rowFails}
 use Rattle.votes.specs.Tallies.{among, Tallied}
 
 pub record Bits (p : List ℕ) : Type 0 where
@@ -35,7 +36,10 @@ pub record Columns (x : List ℕ) (n gamma : ℕ) : Type 0 where
   pub few : n ≤ 1023
   pub part : (j : ℕ) → j < n → Part x (j * gamma) gamma
 
--- parities of rows that the matrix does not have are 0
+pub record RowParities (l : List ℕ) (m rho : ℕ) (z : ℕ → ℕ) (p : List ℕ) : Type 0 where
+  pub bits : Bits p
+  pub each : (i : ℕ) → i < m → at p i ≡ rowFails l rho z i
+
 pub record Parities (H : Matrix) (z : ℕ → ℕ) (p : List ℕ) : Type 0 where
   pub bits : Bits p
   pub each : (i : ℕ) → i < H .m → at p i ≡ fails H z i

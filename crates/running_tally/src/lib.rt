@@ -8,10 +8,10 @@ ghost use Rattle.packed_word.specs.Steps.{at};
 ghost use Rattle.parity_check.specs.Code.{Word};
 ghost use Rattle.parity_check.specs.Reading.{Accepted};
 ghost use Rattle.parity_check.specs.Shapes.{matrixOf};
-ghost use Rattle.syndrome.specs.Places.{Part, Places};
+ghost use Rattle.syndrome.specs.Places.{Part, Checks, Places};
 ghost use Rattle.votes.specs.Tallies.{among};
 ghost use Rattle.column_index.specs.Index.{Indexed};
-ghost use Rattle.running_tally.specs.Parities.{Bits, Turned, turns, flips, Columns, Parities, Retallied};
+ghost use Rattle.running_tally.specs.Parities.{Bits, Turned, turns, flips, Columns, RowParities, Parities, Retallied};
 
 // Turns over the parity at each of `count` row numbers of the index.
 fn turn_checks(index: &[u16], from: usize, count: usize, parity: &mut [u8; 1023])
@@ -72,6 +72,73 @@ fn list_odd(m: usize, parity: &[u8; 1023], rows: &mut [u16]) -> usize
     t
 }
 
+// The parity of each of m rows of the list.
+fn parities(list: &[u16], m: usize, rho: usize, bits: &[u8; 1023], parity: &mut [u8; 1023])
+    requires { ⌜ Checks (now list) m rho (at (now bits)) × Bits (now parity) ⌝ }
+    ensures { λ _. ⌜ RowParities (now (list .entry)) m rho (at (now (bits .entry))) (now (parity .exit)) ⌝ }
+{
+    let mut i = 0;
+    while i < m {
+        parity[i] = syndrome::row_parity(list, i * rho, rho, bits);
+        i += 1;
+    }
+}
+
+// The same, with the loop over a row's entries laid out for each of the smallest row weights.
+fn parities_by_weight(
+    list: &[u16],
+    m: usize,
+    rho: usize,
+    bits: &[u8; 1023],
+    parity: &mut [u8; 1023],
+)
+    requires { ⌜ Checks (now list) m rho (at (now bits)) × Bits (now parity) ⌝ }
+    ensures { λ _. ⌜ RowParities (now (list .entry)) m rho (at (now (bits .entry))) (now (parity .exit)) ⌝ }
+{
+    if rho == 3 {
+        parities(list, m, 3, bits, parity);
+        return;
+    }
+    if rho == 4 {
+        parities(list, m, 4, bits, parity);
+        return;
+    }
+    if rho == 5 {
+        parities(list, m, 5, bits, parity);
+        return;
+    }
+    if rho == 6 {
+        parities(list, m, 6, bits, parity);
+        return;
+    }
+    parities(list, m, rho, bits, parity);
+}
+
+// The parities of the word `before` become those of the word `bits`. Where a column has few rows, all rows are done anew:
+// that costs less than to ask of each bit whether it was flipped.
+fn renew(
+    shape: Shape,
+    list: &[u16],
+    index: &[u16],
+    before: &[u8; 1023],
+    bits: &[u8; 1023],
+    parity: &mut [u8; 1023],
+)
+    requires { ⌜ Accepted (matrixOf shape (now list)) × Indexed (matrixOf shape (now list)) (now index) ⌝ }
+    requires { ⌜ Word (matrixOf shape (now list)) (at (now before)) × Word (matrixOf shape (now list)) (at (now bits)) × Parities (matrixOf shape (now list)) (at (now before)) (now parity) ⌝ }
+    ensures { λ _. ⌜ Parities (matrixOf shape (now (list .entry))) (at (now (bits .entry))) (now (parity .exit)) ⌝ }
+{
+    let n = shape.n as usize;
+    let m = shape.m as usize;
+    let rho = shape.rho as usize;
+    let gamma = shape.gamma as usize;
+    if gamma < 8 {
+        parities_by_weight(list, m, rho, bits, parity);
+        return;
+    }
+    turn_flipped(index, n, gamma, before, bits, parity);
+}
+
 // The votes and the failing checks of the word `bits`, by the parities of the word `before`, which become its own.
 // Only this repository's crates call it, with an accepted matrix and its index.
 pub fn retally(
@@ -87,12 +154,10 @@ pub fn retally(
     requires { ⌜ Word (matrixOf shape (now list)) (at (now before)) × Word (matrixOf shape (now list)) (at (now bits)) × Parities (matrixOf shape (now list)) (at (now before)) (now parity) ⌝ }
     ensures { λ r. ⌜ Retallied (matrixOf shape (now (list .entry))) (at (now (bits .entry))) (now (parity .exit)) (now (votes .exit)) r ⌝ }
 {
-    let n = shape.n as usize;
     let m = shape.m as usize;
     let rho = shape.rho as usize;
-    let gamma = shape.gamma as usize;
     let mut rows = [0u16; 1023];
-    turn_flipped(index, n, gamma, before, bits, parity);
+    renew(shape, list, index, before, bits, parity);
     let count = list_odd(m, parity, &mut rows);
     *votes = [0u8; 1023];
     votes::add_rows(list, rho, &rows, count, votes);

@@ -19,7 +19,8 @@ ghost use Rattle.syndrome.specs.Failing.{failingOf};
 ghost use Rattle.syndrome.specs.Places.{Part, BitsAt, ones, Checks, rowFails, Places};
 
 // The parity of the bits at `count` column numbers of the list: a row's check fails where it is 1.
-fn row_parity(list: &[u16], from: usize, count: usize, bits: &[u8; 1023]) -> u8
+// Only this repository's crates call it, with rows of an accepted matrix.
+pub fn row_parity(list: &[u16], from: usize, count: usize, bits: &[u8; 1023]) -> u8
     requires { ⌜ Part (now list) from count × BitsAt (now list) from count (at (now bits)) ⌝ }
     ensures { λ r. ⌜ r ≡ ones (now (list .entry)) from count (at (now (bits .entry))) % 2 ⌝ }
 {
