@@ -1,11 +1,11 @@
 -- Laws of text put into a buffer: piece after piece. Assumes nothing.
-use mathlib.Core.Path.{_≡_, refl, sym, ap, _∙_}
+use mathlib.Core.Path.{_≡_, refl, sym, ap, ap₂, _∙_}
 use mathlib.Core.List.{List, [], _++_}
-use Prim.Native.Nat.{ℕ}
+use Prim.Native.Nat.{ℕ, _+_, _≤_}
 use native.Mathlib.Nat.{add-zero}
 use native.Mathlib.Omega.{arith}
-use lib.ListN.{length, length-append}
-use lib.Seq.{sets, length-sets}
+use lib.ListN.{length, take, length-append}
+use lib.Seq.{sets, length-sets, sets-eq, take-at, length-take-le}
 use Rattle.counting.proofs.Stores.{sets-append}
 use Rattle.numerals.specs.Putting.{Put}
 
@@ -28,3 +28,9 @@ put-as e p = rw e at p
 -- the buffer is as long as before
 pub put-length : {s : List ℕ} {at end : ℕ} {a b : List ℕ} → Put s at a b end → length b ≡ length a
 put-length {s} {at} {end} {a} p = ap length (p .bytes) ∙ length-sets a at s
+
+-- what then stands before the end: what stood before the text, and the text
+pub put-front : {t : List ℕ} {at end : ℕ} {a b : List ℕ} → at + length t ≤ length a → Put t at a b end → take end b ≡ take at a ++ t
+put-front {t} {at} {end} {a} h p =
+    let l : length (take at a ++ t) ≡ at + length t = length-append (take at a) t ∙ omega (arith, length-take-le at a (omega arith)) in
+    ap₂ take (p .ends) (p .bytes ∙ sets-eq t a at h) ∙ take-at (take at a ++ t) _ (at + length t) l

@@ -12,7 +12,10 @@ use lib.ListN.{length, take, drop, length-drop}
 use lib.Seq.{take-take, drop-drop, take-all, length-take-le}
 use Rattle.parity_check.specs.Code.{Matrix}
 use Rattle.quantiser.specs.Samples.{Choice}
+use Rattle.input.specs.Opening.{Decodable}
 use Rattle.block_lines.specs.Blocks.{blocksIn, blockAt, blockLines, chunkText}
+use Rattle.block_turns.specs.Turning.{atOnce}
+use Rattle.block_turns.proofs.Turning.{at-once}
 use Rattle.stream.specs.Program.{blocksText}
 use Rattle.stream.specs.Turns.{turnsText, Turning}
 
@@ -155,3 +158,17 @@ module _ (H : Matrix) (S : Choice) (some : 0 < 4 * H .n) where
     pub turns-print : (bs : List ℕ) → turnsText H S at 65535 0 bs ≡ blocksText H S bs
     unfolding limited blocksText
     turns-print bs = turns-from 65535 0 bs (omega arith)
+
+-- what the program reads at once is a block at least, and none past the 65,535th
+pub turning : (n : ℕ) → 2 ≤ n → n ≤ 1023 → Turning (atOnce n)
+turning n least most =
+    record {
+      least = λ i l. let o = at-once n i least most l in omega (arith, o .some, o .count);
+      most = λ i l. let o = at-once n i least most l in omega (arith, o .numbers, o .count);
+    }
+
+-- so its turns print the blocks' text
+pub program-prints : (H : Matrix) (S : Choice) (bs : List ℕ) → Decodable H S → turnsText H S (atOnce (H .n)) 65535 0 bs ≡ blocksText H S bs
+program-prints H S bs d =
+    let z = d .matrix .sizes in
+    turns-print H S (omega (arith, z .n-least)) (atOnce (H .n)) (turning (H .n) (z .n-least) (z .n-most)) bs

@@ -1,5 +1,5 @@
 -- What the contracts of `stream` cite.
 pub mod Program
-pub mod Lending
+pub mod Ending
 pub mod Turns
 pub mod Examples

@@ -1,9 +1,11 @@
--- `stream::run_on_sizes` meets its contract: the list fits its array. Assumes nothing.
+-- `stream::run_on_sizes` meets its contract: the list fits its array, and is as long as the sizes say. Assumes nothing.
+use mathlib.Core.Path.{sym}
 use mathlib.Core.List.{[]}
-use Prim.Native.Nat.{ℕ}
+use Prim.Native.Nat.{ℕ, _*_}
 use native.Mathlib.Omega.{arith}
 use borrow.Author.Needs.{needs}
 use lib.ListN.{length-take, length-replicate}
+use lib.Seq.{length-take-le}
 use Rattle.parity_check.specs.Shapes.{matrixOf}
 use Rattle.input.proofs.Openings.{few}
 use Rattle.stream.proofs.run_on_sizes.Statement.{statement}
@@ -21,7 +23,7 @@ mul-count c =
     omega (arith, few (matrixOf (s .args .shape) []) (s .pre .0))
 
 slice-aggregate-read-list : tie.Need-slice-aggregate-read-list
-slice-aggregate-read-list c = search needs
+slice-aggregate-read-list c = sym (length-replicate {A = ℕ} 32736 0)
 
 read-list-requires : tie.Need-read-list-requires
 read-list-requires c κs =
@@ -30,13 +32,13 @@ read-list-requires c κs =
     (h, omega (arith, h, length-replicate {A = ℕ} 32736 0))
 
 end-short-requires : tie.Need-end-short-requires
-end-short-requires c κs = search needs
+end-short-requires c κs = c .before .before .before .before .before .before .before .before .pre .1
 
 same-length : tie.Need-same-length
-same-length c = search needs
+same-length c = c .before .before .end-short .kept .0
 
 returns : tie.Need-returns
-returns c = search needs
+returns c = tt
 
 array-share-prefix-list : tie.Need-array-share-prefix-list
 array-share-prefix-list c =
@@ -49,13 +51,16 @@ slice-aggregate-run-on-list c =
     simp length-take (omega (arith, few (matrixOf (s .args .shape) []) (s .pre .0), length-replicate {A = ℕ} 32736 0))
 
 run-on-list-requires : tie.Need-run-on-list-requires
-run-on-list-requires c κs = search needs
+run-on-list-requires c κs =
+    let l = c .before .before .before .before in
+    let s = l .before .before .before .before .before in
+    (length-take-le (s .args .shape .m * s .args .shape .rho) (l .read-list .last .0) (omega (arith, l .read-list .kept, few (matrixOf (s .args .shape) []) (s .pre .0), length-replicate {A = ℕ} 32736 0)), s .pre .1)
 
 same-length-2 : tie.Need-same-length-2
-same-length-2 c = search needs
+same-length-2 c = c .before .before .run-on-list .kept .1 .1 .0
 
 returns-2 : tie.Need-returns-2
-returns-2 c = search needs
+returns-2 c = tt
 
 pub run-on-sizes-spec : {M : Type 1} → statement M
 run-on-sizes-spec =

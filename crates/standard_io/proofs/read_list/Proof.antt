@@ -1,12 +1,15 @@
--- `stream::read_list` meets its contract. Assumes nothing.
+-- `standard_io::read_list` meets its contract: all that was wanted came, and became the list. Assumes nothing.
 use native.Mathlib.Omega.{arith}
 use borrow.Author.Needs.{needs}
-use lib.ListN.{length-take}
-use Rattle.stream.proofs.read_list.Statement.{statement}
-use Rattle.stream.proofs.read_list.Tie as tie
+use lib.ListN.{take, length-take}
+use Rattle.standard_io.proofs.read_list.Statement.{statement}
+use Rattle.standard_io.proofs.read_list.Tie as tie
 
 mul-want : tie.Need-mul-want
 mul-want c = search needs
+
+large-buffer-requires : tie.Need-large-buffer-requires
+large-buffer-requires c κs = tt
 
 slice-aggregate-read : tie.Need-slice-aggregate-read
 slice-aggregate-read c = search needs
@@ -30,13 +33,16 @@ same-length : tie.Need-same-length
 same-length c = search needs
 
 returns-2 : tie.Need-returns-2
-returns-2 c = search needs
+returns-2 c =
+    let r = c .before .before .before .before .before .before .before in
+    record { bytes = take (r .read .result) (r .read .last .0); whole = simp length-take (omega arith); cells = c .before .before .entries .ensures }
 
 pub read-list-spec : {M : Type 1} → statement M
 read-list-spec =
     tie.close
     (tie.spec
     mul-want
+    large-buffer-requires
     slice-aggregate-read
     read-requires
     returns

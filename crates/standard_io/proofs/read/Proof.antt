@@ -1,9 +1,11 @@
--- `stream::read` meets its contract. Assumes nothing.
+-- `standard_io::read` meets its contract: what is read fills the front alone. Assumes nothing.
+use mathlib.Core.Path.{_≡_}
 use native.Mathlib.Omega.{arith}
 use borrow.Author.Needs.{needs}
-use lib.ListN.{length-take}
-use Rattle.stream.proofs.read.Statement.{statement}
-use Rattle.stream.proofs.read.Tie as tie
+use lib.ListN.{length, length-take}
+use lib.Seq.{length-take-le, drop-at}
+use Rattle.standard_io.proofs.read.Statement.{statement}
+use Rattle.standard_io.proofs.read.Tie as tie
 
 slice-relend-prefix-read-full : tie.Need-slice-relend-prefix-read-full
 slice-relend-prefix-read-full c = search needs
@@ -20,7 +22,10 @@ same-length c = search needs
 returns : tie.Need-returns
 returns c =
     let s = c .before .before .before .before .before in
-    omega (arith, c .before .before .read-full .ensures .0, c .before .before .read-full .kept, length-take (s .args .want) (s .args .input .now))
+    let r = c .before .before in
+    let new = r .read-full .last .1 .0 in
+    let whole : length new ≡ s .args .want = omega (arith, r .read-full .kept, length-take-le (s .args .want) (s .args .input .now) (s .pre)) in
+    (omega (arith, r .read-full .ensures .0, whole), drop-at new _ _ whole)
 
 pub read-spec : {M : Type 1} → statement M
 read-spec =

@@ -1,11 +1,11 @@
--- `stream::at_once` meets its contract: the least of three numbers. Assumes nothing.
+-- `block_turns::at_once` meets its contract: the least of three numbers. Assumes nothing.
 use mathlib.Core.Path.{ap, sym, _∙_, subst}
 use Prim.Native.Nat.{ℕ, min, _-_}
 use borrow.Author.Needs.{needs}
-use Rattle.stream.specs.Lending.{AtOnce}
-use Rattle.stream.proofs.Reading.{at-once}
-use Rattle.stream.proofs.at_once.Statement.{statement}
-use Rattle.stream.proofs.at_once.Tie as tie
+use Rattle.block_turns.specs.Lending.{AtOnce}
+use Rattle.block_turns.proofs.Turning.{at-once}
+use Rattle.block_turns.proofs.at_once.Statement.{statement}
+use Rattle.block_turns.proofs.at_once.Tie as tie
 
 sub-left : tie.Need-sub-left
 sub-left c = search needs

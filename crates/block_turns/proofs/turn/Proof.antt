@@ -1,4 +1,4 @@
--- `stream::turn` meets its contract: what is read at once may be printed, and the number rises. Assumes nothing.
+-- `block_turns::turn` meets its contract: what is read at once is printed, and the number is the next. Assumes nothing.
 use Prim.Native.Nat.{_*_, _≤_}
 use native.Mathlib.Omega.{arith}
 use borrow.Author.Needs.{needs}
@@ -6,9 +6,9 @@ use lib.ListN.{length, take, length-take}
 use Rattle.parity_check.specs.Shapes.{matrixOf}
 use Rattle.quantiser.specs.Settings.{choiceOf}
 use Rattle.block_lines.proofs.Lining.{chunk-ends}
-use Rattle.stream.proofs.Reading.{countable}
-use Rattle.stream.proofs.turn.Statement.{statement}
-use Rattle.stream.proofs.turn.Tie as tie
+use Rattle.block_turns.proofs.Turning.{countable, turned, next-none, next-more}
+use Rattle.block_turns.proofs.turn.Statement.{statement}
+use Rattle.block_turns.proofs.turn.Tie as tie
 
 cast-n : tie.Need-cast-n
 cast-n c = search needs
@@ -36,7 +36,7 @@ chunk-requires c κs =
     let r = c .before .before .before .before in
     let o = r .before .before in
     let s = o .before .before .before .before .before in
-    countable (matrixOf (s .args .shape) (s .args .list .now)) (choiceOf (s .args .setting)) (s .pre .decodable) (o .at-once .ensures) (simp length-take (omega arith)) (s .pre .held)
+    countable (matrixOf (s .args .shape) (s .args .list .now)) (choiceOf (s .args .setting)) (s .pre .held) (s .pre .decodable) (o .at-once .ensures) (simp length-take (omega arith))
 
 print-requires : tie.Need-print-requires
 print-requires c κs =
@@ -48,7 +48,7 @@ print-requires c κs =
     let S = choiceOf (s .args .setting) in
     let bs = take (r .read .result) (r .read .last .0) in
     let few : length bs ≤ o .at-once .result * (4 * s .args .shape .n) = simp length-take (omega arith) in
-    chunk-ends H S (s .args .number) bs (s .args .at) (s .args .out .now) (countable H S (s .pre .decodable) (o .at-once .ensures) few (s .pre .held)) (k .chunk .ensures)
+    chunk-ends H S (s .args .number) bs (s .args .at) (s .args .out .now) (countable H S (s .pre .held) (s .pre .decodable) (o .at-once .ensures) few) (k .chunk .ensures)
 
 same-length : tie.Need-same-length
 same-length c = search needs
@@ -57,7 +57,14 @@ same-length-2 : tie.Need-same-length-2
 same-length-2 c = search needs
 
 returns : tie.Need-returns
-returns c = search needs
+returns c =
+    let k = c .before .before .before .before .before in
+    let r = k .before .before .before .before .before in
+    let o = r .before .before in
+    let s = o .before .before .before .before .before in
+    let got = r .read .result in
+    turned (matrixOf (s .args .shape) (s .args .list .now)) (choiceOf (s .args .setting)) (s .pre .held) got (s .pre .decodable) (o .at-once .ensures) (r .read .ensures .0)
+    (k .chunk .ensures) (next-none (o .at-once .ensures) got (c .if1 .taken))
 
 cast-result : tie.Need-cast-result
 cast-result c = search needs
@@ -72,7 +79,14 @@ same-length-4 : tie.Need-same-length-4
 same-length-4 c = search needs
 
 returns-2 : tie.Need-returns-2
-returns-2 c = search needs
+returns-2 c =
+    let k = c .before .before .before .before .before in
+    let r = k .before .before .before .before .before in
+    let o = r .before .before in
+    let s = o .before .before .before .before .before in
+    let got = r .read .result in
+    turned (matrixOf (s .args .shape) (s .args .list .now)) (choiceOf (s .args .setting)) (s .pre .held) got (s .pre .decodable) (o .at-once .ensures) (r .read .ensures .0)
+    (k .chunk .ensures) (next-more (o .at-once .ensures) got (c .if1 .left))
 
 pub turn-spec : {M : Type 1} → statement M
 turn-spec =

@@ -1,0 +1,3 @@
+-- What the contracts of `block_turns` cite.
+pub mod Turning
+pub mod Lending

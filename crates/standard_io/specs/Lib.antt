@@ -1,0 +1,2 @@
+-- What the contracts of `standard_io` cite.
+pub mod Reading
