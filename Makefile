@@ -1,6 +1,9 @@
 # The shed-link block decoder. `make run` shows it working, `make test` checks everything, `make bench` measures it.
 .PHONY: run test bench fuzz audit prove staticlib decode tools
 
+# Checks of crates and must-fail edits that run at a time: more than the processors, since those of a batch wait for its longest.
+export RT_JOBS ?= 4
+
 N ?= 20
 SETTING ?= bits 8 limit 30 level-step 0.1
 
