@@ -1,5 +1,6 @@
 -- Answers in document 01's numbers. No type of the program is named here.
 --   Verdict             == accepted, or refused with a number and a place
+--   refuseIf t k x v    == refusal k at place x where the test t passes, else v
 --   refuseWhen k t v    == refusal k at place 0 where the test t passes, else v
 --   refuseAt k x b v    == refusal k at place x where x lies below its bound b, else v
 --   andThen v w         == v's refusal, else what w says

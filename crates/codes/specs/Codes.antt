@@ -2,6 +2,7 @@
 --   codeOf s   == code + 2 ^ 32 × (rounds + 2 ^ 8 × (failing + 2 ^ 12 × changed)), code being the outcome,
 --                 or refusal number × 65,536 + place
 --   Small s    == rounds, failing and changed have room in it
+--   Room r f c == so do these three numbers
 -- Assumes nothing.
 use Prim.Native.Nat.{ℕ, _+_, _*_, _<_}
 use Rattle.answers.specs.Paper.{Said, refusal, report}

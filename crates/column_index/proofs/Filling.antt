@@ -10,7 +10,7 @@ use native.Mathlib.Omega.{arith}
 use lib.ListN.{length, set, replicate, length-set, length-replicate}
 use lib.Seq.{getD-set-same, getD-set-other}
 use Rattle.counting.specs.Sum.{sum, same}
-use Rattle.counting.proofs.Sums.{sum-cong, sum-zero, sum-mul, sum-next, sum-part, sum-pick, same-refl, same-ne, same-sym}
+use Rattle.counting.proofs.Sums.{sum-cong, sum-mul, sum-next, sum-part, sum-pick, same-refl, same-ne, same-sym}
 use Rattle.counting.proofs.Writing.{stored, zeros}
 use Rattle.packed_word.specs.Steps.{at}
 use Rattle.parity_check.specs.Code.{Matrix, entry, has, weight}

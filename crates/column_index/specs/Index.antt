@@ -6,7 +6,7 @@
 --   placing H i k j r        == what the first k entries of row i add to that
 --   Filled H i k counts x    == x after the rows before row i and the first k entries of row i, so many at each column
 -- Assumes nothing.
-use Prim.Native.Nat.{ℕ, _+_, _*_, _≤_, _<_}
+use Prim.Native.Nat.{ℕ, _+_, _*_, _<_}
 use mathlib.Core.Path.{_≡_}
 use mathlib.Core.List.{List}
 use lib.ListN.{length}

@@ -4,7 +4,7 @@
 --   FirstAt P k x    == x is the first place below k at which P holds
 -- Assumes nothing.
 use Prim.Native.Nat.{ℕ, zero, suc, _<_}
-use mathlib.Core.Bool.{Bool, true, false, cond, _||_}
+use mathlib.Core.Bool.{Bool, false, cond, _||_}
 
 -- whether a place below k passes the test
 unfoldable pub any : (ℕ → Bool) → ℕ → Bool

@@ -1,6 +1,7 @@
 -- What the exported calls answer and write.
 --   QuantisedAs S ..     == what `mlgd_quantise` answers and writes
 --   DecodedAs H S ..     == what `mlgd_iterative` answers and writes
+--   leftBy t l h         == l where the test t passes, else refusal 7 with h kept
 --   onRecord c l h       == what a call leaves that is lent the cells c: l, or refusal 7 where they are not eight
 --   CalledAs l ..        == the answer and every lent cell after a call are those of l
 -- Assumes nothing.

@@ -64,7 +64,7 @@ pub fn sizes(bytes: &[u8; 8]) -> Shape
     }
 }
 
-// The list of the matrix, at the front of an array.
+// The list of the matrix, at the front of an array. Only this repository's crates call it, with room for the entries.
 pub fn entries(bytes: &[u8], list: &mut [u16])
     requires { ⌜ length (now bytes) / 2 ≤ length (now list) ⌝ }
     ensures { λ _. ⌜ now (list .exit) ≡ over (entriesIn (now (bytes .entry))) (now (list .entry)) ⌝ }
@@ -85,6 +85,7 @@ fn finite_pattern(p: u32) -> bool
 }
 
 // The samples of a block as floats, up to the first that is not finite. Answers its place, or how many samples there are.
+// Only this repository's crates call it, with room for the samples.
 pub fn samples(bytes: &[u8], xs: &mut [f32]) -> usize
     requires { ⌜ length (now bytes) / 4 ≤ length (now xs) ⌝ }
     ensures { λ r. ⌜ Sampled (now (bytes .entry)) (now (xs .entry)) (now (xs .exit)) r ⌝ }

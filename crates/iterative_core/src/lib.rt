@@ -15,7 +15,7 @@ ghost use Rattle.quantiser.specs.Filling.{Fillable};
 ghost use Rattle.column_index.specs.Index.{Indexed};
 ghost use Rattle.iterative_core.specs.Calls.{Lent, Started, Decoded};
 
-// L, the largest level of so many bits.
+// L, the largest level of so many bits. Only this repository's crates call it, with a width in range.
 pub fn middle_of(bits: u16) -> u8
     requires { ⌜ (2 ≤ bits) × (bits ≤ mostBits) ⌝ }
     ensures { λ r. ⌜ r ≡ largest bits ⌝ }

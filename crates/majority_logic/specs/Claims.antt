@@ -2,6 +2,8 @@
 --   IsWord n w            == w is the bytes of a word of n bits, spare places zero
 --   Sent H c              == c is the bytes of a codeword
 --   WithinHalf H c w      == w is the codeword c changed within the half
+--   flips H c w           == how many bits were flipped
+--   Restored H c w ..     == decoded with the codeword sent, the counts and the bytes of it
 --   FlippingRule          == what one-step voting answers and writes for such a word
 --   DistinctReceived H    == two different codewords so changed never give one received word
 --   FarApart H            == two different codewords differ in more than gamma places
@@ -13,7 +15,7 @@ use Prim.Native.Nat.{ℕ, _/_, _≤_, _<_}
 use lib.Dec.{eqb}
 use lib.ListN.{length}
 use Rattle.counting.specs.Lists.{over}
-use Rattle.answers.specs.Paper.{Verdict, accepted, Said, report}
+use Rattle.answers.specs.Paper.{accepted, Said, report}
 use Rattle.packed_word.specs.Packed.{bitAt, bytesFor, spareSet, Bytes, distance}
 use Rattle.parity_check.specs.Code.{Matrix, failing}
 use Rattle.parity_check.specs.Check.{checkOf}

@@ -7,7 +7,7 @@
 --   oneStepWord H w           == the bytes that it writes
 -- Assumes nothing.
 use Prim.Native.Nat.{ℕ}
-use mathlib.Core.Bool.{Bool, cond, _||_}
+use mathlib.Core.Bool.{cond, _||_}
 use mathlib.Core.List.{List}
 use lib.Dec.{eqb, ltb}
 use Rattle.answers.specs.Paper.{Verdict, accepted, refuseWhen, andThen, Said, report, after}

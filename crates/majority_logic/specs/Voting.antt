@@ -1,5 +1,6 @@
 -- Votes of the failing checks, and the word after each bit has been voted on. (Document 01, "One-step voting".)
 --   votes H z j      == the number of failing checks on bit j
+--   flipWhen t b     == the bit b, turned over where the test t passes
 --   flipped H z j    == bit j after the vote
 -- Assumes nothing.
 use Prim.Native.Nat.{ℕ, _*_, _-_}

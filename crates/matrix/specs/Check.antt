@@ -1,8 +1,10 @@
 -- The matrix check: refusals 1 to 5 in their order. (Document 01, "Refused for the input".)
+--   within lo x hi    == x lies from lo to hi
 --   sizesFit H        == the sizes are in range, and m × rho = n × gamma
 --   badEntry H p      == entry p of the list is not below n, or not above the one before it in its row
 --   badWeight H j     == column j's weight is not gamma
 --   overlapping H i   == row i shares two columns or more with a later row
+--   listOf H          == refusals 3 to 5
 --   checkOf H         == what the check says
 -- Assumes nothing.
 use Prim.Native.Nat.{ℕ, _*_, _-_, _%_}

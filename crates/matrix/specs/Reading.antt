@@ -1,6 +1,7 @@
 -- The plain reading of the matrix check: which verdict a matrix has, in statements and not in tests.
 --   Sizes, Rows, Accepted   == what an accepted matrix is
 --   BadEntry, BadWeight, Overlap   == what refusals 3, 4 and 5 are given for
+--   Never P k   == P holds at no place below k
 --   Reads H v   == v is the verdict that document 01 gives the matrix H
 -- proofs/Reading.antt shows that `checkOf H` is that verdict and no other is. Assumes nothing.
 use mathlib.Core.Path.{_≡_}

@@ -1,4 +1,5 @@
 -- The matrix that a call is lent: its sizes and its list.
+--   matrixOf s list   == the matrix of both
 -- Assumes nothing.
 use Prim.Native.Nat.{ℕ}
 use mathlib.Core.List.{List}

@@ -1,15 +1,15 @@
 -- The call as a whole: the report and the word of an accepted call, and the answer that each test gives. Assumes nothing.
-use mathlib.Core.Path.{_≡_, refl, sym, ap, ap₂, subst, _∙_}
-use mathlib.Core.Bool.{Bool, true, false, not, _||_}
+use mathlib.Core.Path.{_≡_, refl, sym, ap, ap₂, _∙_}
+use mathlib.Core.Bool.{true, false, _||_}
 use mathlib.Core.List.{List}
-use Prim.Native.Nat.{ℕ, _+_, _*_, _-_, _/_, _≤_, _<_}
+use Prim.Native.Nat.{ℕ, _+_, _*_, _-_, _≤_, _<_}
 use native.Mathlib.Omega.{arith}
 use lib.Dec.{eqb, ltb}
 use lib.ListN.{length, take}
 use borrow.Author.Tests.{eq-eqb, ne-eqb, lt-ltb, le-ltb}
 use Rattle.counting.specs.Lists.{over}
 use Rattle.counting.proofs.Writing.{take-over}
-use Rattle.answers.specs.Paper.{Verdict, accepted, refused, Said, refusal, report, refuseWhen, andThen, after, written}
+use Rattle.answers.specs.Paper.{accepted, refused, Said, refusal, report, refuseWhen, written}
 use Rattle.packed_word.specs.Packed.{bitAt, bytesFor, pack, spareSet, distance}
 use Rattle.packed_word.specs.Steps.{at, Unpacked}
 use Rattle.packed_word.proofs.Packing.{bit-bit, length-pack, bitAt-pack, spare-pack, pack-cong, spare-clear}

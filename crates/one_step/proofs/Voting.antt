@@ -1,17 +1,15 @@
 -- The vote on an unpacked word is the definition's. Assumes nothing.
-use mathlib.Core.Path.{_≡_, refl, sym, ap, _∙_}
-use mathlib.Core.Bool.{Bool, cond}
+use mathlib.Core.Path.{_≡_, sym, ap, _∙_}
 use mathlib.Core.List.{List}
-use Prim.Native.Nat.{ℕ, _*_, _≤_, _<_}
+use Prim.Native.Nat.{ℕ, _*_, _<_}
 use native.Mathlib.Omega.{arith}
 use lib.Dec.{ltb, eqb}
 use borrow.Author.Tests.{eq-eqb, ne-eqb}
-use lib.ListN.{length}
 use Rattle.packed_word.specs.Steps.{at}
 use Rattle.parity_check.specs.Code.{Matrix, Word, failing}
 use Rattle.parity_check.specs.Reading.{Accepted}
 use Rattle.parity_check.proofs.Rows.{failing-cong}
-use Rattle.majority_logic.specs.Voting.{votes, flipped, flipWhen}
+use Rattle.majority_logic.specs.Voting.{flipped, flipWhen}
 use Rattle.majority_logic.specs.OneStep.{stepWord, stepRounds}
 use Rattle.majority_logic.proofs.Correction.{flipped-by, stepWord-flipped, stepWord-bit}
 use Rattle.votes.specs.Tallies.{Tallied, Voted}

@@ -40,7 +40,7 @@ fn vote(shape: Shape, list: &[u16], bits: &mut [u8; 1023]) -> Tally
     }
 }
 
-// The core, for a matrix that the check has accepted: its caller has asked the refusals.
+// The core, for a matrix that the check has accepted. Only this repository's crates call it, after asking the refusals.
 pub fn one_step_accepted(shape: Shape, list: &[u16], received: &[u8], word: &mut [u8]) -> Report
     requires { ⌜ Lent (matrixOf shape (now list)) (now received) (now word) ⌝ }
     ensures { λ r. ⌜ Voted (matrixOf shape (now (list .entry))) (now (received .entry)) (now (word .entry)) (now (word .exit)) (reportOf r) ⌝ }

@@ -1,6 +1,7 @@
 -- Words of n bits, eight to a byte, bit 0 in the highest place of byte 0. (Document 01, "The code and the block".)
 --   bitAt w j        == bit j of the packed word w
 --   bytesFor n       == the bytes of a word of n bits
+--   packedByte n z q == byte q of such a word
 --   pack n z         == the bytes of the word with bits z 0 .. z (n - 1), spare places zero
 --   spareSet n w     == whether a spare place of the word w is set
 --   Bytes w          == each element of w is a byte

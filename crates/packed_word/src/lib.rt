@@ -9,7 +9,7 @@ ghost use Rattle.counting.specs.Lists.{over};
 ghost use Rattle.packed_word.specs.Packed.{bitAt, bytesFor, packedByte, pack, spareSet, distance};
 ghost use Rattle.packed_word.specs.Steps.{at, SetBit, FlipBit, Unpacked, apart};
 
-// Bit j of a packed word.
+// Bit j of a packed word. Only this repository's crates call it, with a bit that the word has.
 pub fn get_bit(w: &[u8], j: usize) -> u8
     requires { ⌜ j / 8 < length (now w) ⌝ }
     ensures { λ r. ⌜ r ≡ bitAt (now (w .entry)) j ⌝ }
@@ -17,7 +17,7 @@ pub fn get_bit(w: &[u8], j: usize) -> u8
     (w[j / 8] >> (7 - j % 8)) & 1
 }
 
-// Sets bit j of a packed word, and changes no other.
+// Sets bit j of a packed word, and changes no other. Only this repository's crates call it, with a bit that the word has.
 pub fn set_bit(w: &mut [u8], j: usize)
     requires { ⌜ j / 8 < length (now w) ⌝ }
     ensures { λ _. ⌜ SetBit (now (w .entry)) (now (w .exit)) j ⌝ }
@@ -25,7 +25,7 @@ pub fn set_bit(w: &mut [u8], j: usize)
     w[j / 8] = w[j / 8] | (1 << (7 - j % 8));
 }
 
-// Turns bit j of a packed word over, and changes no other.
+// Turns bit j of a packed word over, and changes no other. Only this repository's crates call it, with a bit that the word has.
 pub fn flip_bit(w: &mut [u8], j: usize)
     requires { ⌜ j / 8 < length (now w) ⌝ }
     ensures { λ _. ⌜ FlipBit (now (w .entry)) (now (w .exit)) j ⌝ }
@@ -35,6 +35,7 @@ pub fn flip_bit(w: &mut [u8], j: usize)
 
 // Whether a place of the last byte that holds no bit of the word is set. There are at most seven such places,
 // of which `left` are still to be tested.
+// Only this repository's crates call it, with the bytes of n bits.
 pub fn spare_set(w: &[u8], n: usize) -> bool
     requires { ⌜ (length (now w) ≡ bytesFor n) × (n ≤ 1023) ⌝ }
     ensures { λ r. ⌜ r ≡ spareSet n (now (w .entry)) ⌝ }
@@ -63,6 +64,7 @@ fn unpack_cells(w: &[u8], n: usize, cells: &mut [u8])
 }
 
 // The same for an array. It is lent as a slice, since only the loan tells the proof that it has 1023 cells.
+// Only this repository's crates call it, with the bytes of n bits.
 pub fn unpack(w: &[u8], n: usize, bits: &mut [u8; 1023])
     requires { ⌜ (n ≤ 1023) × (n ≤ 8 * length (now w)) ⌝ }
     ensures { λ _. ⌜ Unpacked n (now (w .entry)) (now (bits .entry)) (now (bits .exit)) ⌝ }
@@ -101,6 +103,7 @@ fn packed_byte(bits: &[u8; 1023], n: usize, q: usize) -> u8
 }
 
 // Writes the word whose bits are the first n cells, spare places clear, into the first bytes of w.
+// Only this repository's crates call it, with room for these bytes.
 pub fn pack_into(bits: &[u8; 1023], n: usize, w: &mut [u8])
     requires { ⌜ (n ≤ 1023) × (bytesFor n ≤ length (now w)) × ((j : ℕ) → j < n → at (now bits) j < 2) ⌝ }
     ensures { λ _. ⌜ now (w .exit) ≡ over (pack n (at (now (bits .entry)))) (now (w .entry)) ⌝ }
@@ -120,7 +123,7 @@ fn places_apart(x: u8, y: u8) -> u32
     u8::count_ones(x ^ y)
 }
 
-// At how many places two words of the same length differ, byte by byte.
+// At how many places two words of the same length differ, byte by byte. Only this repository's crates call it.
 pub fn differing(a: &[u8], b: &[u8]) -> u16
     requires { ⌜ (length (now a) ≡ length (now b)) × (length (now a) ≤ 128) ⌝ }
     ensures { λ r. ⌜ r ≡ distance (8 * length (now (a .entry))) (bitAt (now (a .entry))) (bitAt (now (b .entry))) ⌝ }

@@ -1,8 +1,12 @@
 -- Document 01's examples of levels and hard bits, in one table with one proof.
 --   Given, Yields   == a width, a step and a sample as bit patterns of single-format floats; the level and the hard bit
+--   Row             == a sample with what it is to yield
+--   choice b kind d == a setting with the round limit 5
+--   made g          == what the definitions yield
+--   eachMade, eachWanted   == what they yield and are to yield for each row
 --   table           == "With level step 0.5 and b = 3 ..", "With full scale 4 and b = 3 .."
 --   every-row       == the definitions yield each row
---   widths          == the widths around the range, and whether a setting may have them
+--   widths, every-width   == the widths around the range, and whether a setting may have them
 -- Assumes nothing.
 use Prim.Native.Nat.{ℕ}
 use mathlib.Core.Path.{_≡_, refl}

@@ -1,5 +1,7 @@
 -- The program's setting in document 01's terms.
---   choiceOf s   == bit width, round limit, kind of step (0 level step, 1 full scale) and step
+--   kindOf, stepOf   == the kind and the float of a step
+--   choiceOf s       == bit width, round limit, kind of step (0 level step, 1 full scale) and step
+--   gainBy k t       == what a sample is multiplied by
 -- Assumes nothing.
 use Prim.Native.Nat.{ℕ}
 use lib.Ieee.{Float}

@@ -127,7 +127,7 @@ fn fill_by(scale: Scale, samples: &[f32], levels: &mut [Cell], cells: &mut [u8])
     }
 }
 
-// Writes the levels of the samples, and their hard bits one to a cell. The caller has asked the refusals.
+// Writes the levels of the samples, and their hard bits one to a cell. Only this repository's crates call it, after asking the refusals.
 // The array is lent as a slice, since the loan says that it has 1023 cells.
 pub fn fill(setting: Setting, samples: &[f32], levels: &mut [Cell], bits: &mut [u8; 1023])
     requires { ⌜ Fillable (choiceOf setting) (now samples) (now levels) ⌝ }

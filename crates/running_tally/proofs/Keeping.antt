@@ -1,9 +1,9 @@
 -- What is turned over makes the parities of one word those of another, and they give its votes. Assumes nothing.
-use mathlib.Core.Path.{_≡_, refl, sym, ap, _∙_}
+use mathlib.Core.Path.{_≡_, sym, ap, _∙_}
 use mathlib.Core.List.{List}
 use mathlib.Core.Logic.{inl, inr}
 use Prim.Native.Nat.{ℕ, zero, suc, _+_, _*_, _-_, _%_, _≤_, _<_}
-use native.Mathlib.Nat.{mul-le-mul-right, mul-comm}
+use native.Mathlib.Nat.{mul-le-mul-right}
 use native.Mathlib.Omega.{arith}
 use lib.ListN.{length, set, replicate, length-set, length-replicate}
 use Rattle.counting.specs.Sum.{sum, differ}
@@ -13,7 +13,7 @@ use Rattle.packed_word.specs.Steps.{at}
 use Rattle.parity_check.specs.Code.{Matrix, entry, has, Word, fails}
 use Rattle.parity_check.specs.Reading.{Accepted}
 use Rattle.parity_check.proofs.Rows.{few-entries, row-sum}
-use Rattle.syndrome.specs.Places.{Part, rowFails, Places}
+use Rattle.syndrome.specs.Places.{rowFails, Places}
 use Rattle.syndrome.proofs.Parity.{row-fails, row-bit}
 use Rattle.votes.specs.Tallies.{among}
 use Rattle.column_index.specs.Index.{Indexed}

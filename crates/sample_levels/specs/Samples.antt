@@ -1,11 +1,18 @@
 -- Settings, levels and hard bits. (Document 01, "Samples and levels"; refusals 6, 7 and 8.)
 --   units x              == the whole number of 2 ^ -149 that the magnitude of x is
+--   negative x           == x is below 0
 --   Choice               == a setting: bit width, round limit, kind of step (0 level step, 1 full scale) and step
---   settingFits S        == the setting is in range
+--   mostBits             == the widest level
+--   stepFits d, settingFits S   == the step, the setting is in range
 --   largest b            == L, the largest level of b bits
+--   tie                  == 0 where half-way samples go away from zero
+--   nearest x d          == x / d to the nearest whole number
+--   gain S               == what the sample's units are multiplied by
 --   magnitude S x        == the magnitude of the level of the sample x
+--   signed s n           == a magnitude with its sign
 --   levelOf S x, hardOf x   == the level and the hard bit of x
---   levelsOf S xs, hardWord xs   == the levels, and the hard bits packed as a word
+--   levelsOf S xs, hardBit xs, hardWord xs   == the levels, the hard bits, and these packed as a word
+--   notFinite xs j, firstNotFinite xs   == sample j is infinite or not a number; the first such place
 --   quantiseVerdict      == what the quantiser alone asks
 -- Assumes nothing.
 use Prim.Native.Nat.{ℕ, min, _+_, _-_, _*_, _/_, _^_}

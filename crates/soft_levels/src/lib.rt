@@ -47,6 +47,7 @@ fn is_above(x: u8, middle: u8) -> u8
 }
 
 // Brings the first n levels and bits to the next round. Each reads its own votes, which are those of the old bits.
+// Only this repository's crates call it, with sizes of an accepted matrix.
 pub fn update(
     votes: &[u8; 1023],
     n: usize,
@@ -86,7 +87,7 @@ fn unbias_one(x: u8, middle: u8) -> i8
     s as i8
 }
 
-// Keeps the first n levels as R + L.
+// Keeps the first n levels as R + L. Only this repository's crates call it, with levels from -L to L.
 pub fn bias(levels: &[i8], n: usize, middle: u8, kept: &mut [u8; 1023])
     requires { ⌜ Bounded n middle (now levels) × (length (now kept) ≡ 1023) ⌝ }
     ensures { λ _. ⌜ Biased n middle (now (levels .entry)) (now (kept .exit)) ⌝ }
@@ -98,7 +99,7 @@ pub fn bias(levels: &[i8], n: usize, middle: u8, kept: &mut [u8; 1023])
     }
 }
 
-// Writes the first n levels back.
+// Writes the first n levels back. Only this repository's crates call it, with room for them.
 pub fn unbias(kept: &[u8; 1023], n: usize, middle: u8, levels: &mut [i8])
     requires { ⌜ Restorable n middle (now kept) (now levels) ⌝ }
     ensures { λ _. ⌜ now (levels .exit) ≡ over (listed n (unbiased middle (now (kept .entry)))) (now (levels .entry)) ⌝ }

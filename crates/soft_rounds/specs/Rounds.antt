@@ -1,12 +1,15 @@
 -- Rounds of iterative soft voting. (Document 01, "Iterative voting".)
 --   others H z i j       == the ones of check i among its bits other than bit j
+--   sign p               == +1 where the parity p is odd, else -1
 --   extrinsic H z j      == E, the sum over bit j's checks
 --   State                == the word z and the stored levels R
+--   levelAfter H L s j   == step 5: the level of bit j after a round
 --   roundOf H L s        == steps 4 to 6
+--   End                  == a k and a state
 --   endOf H L k left s   == k and the state with which the list ends, from round k, with `left` rounds to go
 -- Assumes nothing.
 use Prim.Native.Nat.{ℕ, zero, suc, _+_, _*_, _%_}
-use mathlib.Core.Bool.{Bool, true, false, cond}
+use mathlib.Core.Bool.{Bool, true, false}
 use lib.Dec.{eqb}
 use lib.IntN.{ℤ, pos, negsuc, _+ℤ_, _*ℤ_}
 use Rattle.counting.specs.Sum.{sum, differ}

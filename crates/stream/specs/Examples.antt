@@ -1,6 +1,9 @@
 -- The program's runs by document 01, in one table with one proof: what is printed for each input, computed from the definitions.
 --   low16 xs, low32 xs   == numbers as bytes, low byte first
 --   inputA kind blocks   == code A, b = 3, round limit 5, a step 0.5 of this kind, and what follows it
+--   blockP6, blockP8, blockInfinite   == the samples of P6 and P8, and a block with an infinity
+--   Run                  == an input with what is to be printed
+--   eachMade, eachWanted   == what is printed and is to be printed for each run
 --   table                == each input with what is to be printed after the heading
 --   every-run            == the definitions print it
 -- Floats are bit patterns: 0.5 is 3f000000, -1 is bf800000, 0.1 is 3dcccccd, an infinity 7f800000. Assumes nothing.

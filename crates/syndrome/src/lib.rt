@@ -51,6 +51,7 @@ fn list_failing(list: &[u16], m: usize, rho: usize, bits: &[u8; 1023], rows: &mu
 }
 
 // The rows of an accepted matrix whose checks fail. The array is lent as a slice, since the loan tells the proof its length.
+// Only this repository's crates call it, after the check.
 pub fn failing_rows(shape: Shape, list: &[u16], bits: &[u8; 1023], rows: &mut [u16; 1023]) -> usize
     requires { ⌜ Accepted (matrixOf shape (now list)) × Word (matrixOf shape (now list)) (at (now bits)) ⌝ }
     ensures { λ r. ⌜ Places (fails (matrixOf shape (now (list .entry))) (at (now (bits .entry)))) (shape .m) (now (rows .exit)) r ⌝ }
@@ -60,7 +61,7 @@ pub fn failing_rows(shape: Shape, list: &[u16], bits: &[u8; 1023], rows: &mut [u
     list_failing(list, m, rho, bits, rows)
 }
 
-// How many checks of a word fail.
+// How many checks of a word fail. Only this repository's crates call it, after the check.
 pub fn failing_count(shape: Shape, list: &[u16], bits: &[u8; 1023]) -> u16
     requires { ⌜ Accepted (matrixOf shape (now list)) × Word (matrixOf shape (now list)) (at (now bits)) ⌝ }
     ensures { λ r. ⌜ r ≡ failing (matrixOf shape (now (list .entry))) (at (now (bits .entry))) ⌝ }

@@ -46,6 +46,7 @@ pub fn add_rows(list: &[u16], rho: usize, rows: &[u16; 1023], count: usize, vote
 }
 
 // Each bit's failing checks, and how many checks fail. What the array held before does not matter.
+// Only this repository's crates call it, after the check.
 pub fn tally(shape: Shape, list: &[u16], bits: &[u8; 1023], votes: &mut [u8; 1023]) -> u16
     requires { ⌜ Accepted (matrixOf shape (now list)) × Word (matrixOf shape (now list)) (at (now bits)) ⌝ }
     ensures { λ r. ⌜ Tallied (matrixOf shape (now (list .entry))) (at (now (bits .entry))) (now (votes .exit)) r ⌝ }
@@ -81,6 +82,7 @@ fn flip_front(votes: &[u8; 1023], n: usize, gamma: u16, bits: &mut [u8])
 }
 
 // Every bit after the vote, all at once from the same votes. The array is lent as a slice, since the loan tells the proof its length.
+// Only this repository's crates call it, after the check.
 pub fn flip_all(shape: Shape, votes: &[u8; 1023], bits: &mut [u8; 1023])
     requires { ⌜ (shape .n ≤ 1023) × ((j : ℕ) → j < shape .n → at (now bits) j < 2) ⌝ }
     ensures { λ _. ⌜ Voted (shape .n) (shape .gamma) (now (votes .entry)) (now (bits .entry)) (now (bits .exit)) ⌝ }

@@ -1,10 +1,11 @@
 -- A call of document 01's worked examples, and what the definitions yield for it.
 --   Call      == a matrix and what is lent with it
 --   Yields    == what is said, and what the written buffers then hold
+--   yields    == the same from its parts
 --   made c    == what the definitions yield for the call c
 -- Assumes nothing.
 use Prim.Native.Nat.{ℕ}
-use mathlib.Core.List.{List, [], _∷_}
+use mathlib.Core.List.{List, []}
 use lib.IntN.{ℤ}
 use lib.Ieee.{Float}
 use lib.ListN.{length}

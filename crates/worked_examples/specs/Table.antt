@@ -1,5 +1,9 @@
 -- P1 to P10 in one table, and one proof over the whole table. (Document 01, "Worked by hand".)
 --   codeA, codeB   == the two codes of the examples
+--   setting, seven, sevenLevels   == the setting of P6 with another limit; seven samples, seven levels, the first apart
+--   decode         == a call of iterative voting on code A
+--   Row            == a call with what it is to yield
+--   eachMade, eachWanted   == what the rows yield and are to yield
 --   table          == each call with what it is to yield
 --   all-rows       == the definitions yield each row
 -- Bytes and floats are written by their bits. Assumes nothing.

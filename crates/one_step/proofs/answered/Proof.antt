@@ -1,7 +1,5 @@
 -- `one_step::answered` meets its contract: the matrix check's refusal, else what follows on the accepted matrix. Assumes nothing.
 use mathlib.Core.Path.{refl, sym, ap, _∙_}
-use mathlib.Core.List.{List}
-use Prim.Native.Nat.{ℕ}
 use borrow.Author.Needs.{needs}
 use Rattle.answers.specs.Answers.{verdictOf, numberOf, placeOf}
 use Rattle.parity_check.specs.Shapes.{matrixOf}

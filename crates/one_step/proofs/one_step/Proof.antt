@@ -1,6 +1,4 @@
 -- `one_step::one_step` meets its contract: the flipping rule is a theorem on what is answered. Assumes nothing.
-use mathlib.Core.List.{List}
-use Prim.Native.Nat.{ℕ}
 use borrow.Author.Needs.{needs}
 use Rattle.answers.specs.Answers.{saidOf}
 use Rattle.parity_check.specs.Code.{Matrix}
