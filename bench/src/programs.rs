@@ -77,10 +77,15 @@ fn time(program: &Path, input: &Stored) -> f64 {
     (children_microseconds() - start) / 1e3
 }
 
+/// A run under so many milliseconds is measured in more turns: the start of a process varies by as
+/// much as a short run takes.
+const SHORT: f64 = 16.0;
+
 /// The best times of the first two programs, taking turns.
 fn best_times(turns: usize, programs: [&Path; 2], input: &Stored) -> [f64; 2] {
     let mut best = [f64::INFINITY; 2];
-    for turn in 0..turns {
+    let more = (SHORT / time(programs[0], input)).max(1.0);
+    for turn in 0..(turns as f64 * more) as usize {
         for at in [turn % 2, 1 - turn % 2] {
             best[at] = best[at].min(time(programs[at], input));
         }

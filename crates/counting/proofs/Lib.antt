@@ -5,3 +5,4 @@ pub mod Deciding
 pub mod Writing
 pub mod Integers
 pub mod Stores
+pub mod Digits

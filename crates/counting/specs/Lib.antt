@@ -3,3 +3,4 @@ pub mod Sum
 pub mod Search
 pub mod Lists
 pub mod Integers
+pub mod Digits

@@ -4,7 +4,7 @@ use mathlib.Core.Bool.{cond}
 use Prim.Native.Nat.{ℕ, _*_, _<_}
 use lib.Dec.{ltb, eqb}
 use Rattle.counting.proofs.Sums.{sum-cong}
-use Rattle.parity_check.specs.Code.{Matrix, has, weight, fails, failing}
+use Rattle.parity_check.specs.Code.{Matrix, has, weight}
 use Rattle.parity_check.specs.Reading.{Rows}
 use Rattle.parity_check.proofs.Rows.{fails-cong, failing-cong}
 use Rattle.majority_logic.specs.Voting.{votes, flipWhen, flipped}

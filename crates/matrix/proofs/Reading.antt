@@ -20,6 +20,7 @@ use Rattle.counting.specs.Search.{first, FirstAt}
 use Rattle.counting.proofs.Searches.{never, cases, and-left, and-right, and-both, any-at, any-found, first-none, first-unique}
 use Rattle.counting.proofs.Deciding.{Decides, test-fails, found-or-missed}
 use Rattle.answers.specs.Paper.{Verdict, accepted, refused, refuseAt}
+use Rattle.answers.proofs.Verdicts.{not-accepted}
 use Rattle.matrix.specs.Code.{Matrix, entry, weight, common}
 use Rattle.matrix.specs.Check.{within, sizesFit, badEntry, badWeight, overlapping, listOf, checkOf}
 use Rattle.matrix.specs.Reading.{Sizes, BadEntry, BadWeight, Overlap, Never, Rows, Accepted, Reads, sizes-out, length-wrong, entry-bad, weight-bad, rows-overlap, fine}
@@ -34,9 +35,6 @@ range-least lo x hi e = leb-true lo x (and-left (leb lo x) (leb x hi) e)
 
 range-most : (lo x hi : ℕ) → within lo x hi ≡ true → x ≤ hi
 range-most lo x hi e = leb-true x hi (and-right (leb lo x) (leb x hi) e)
-
-differs : {k x : ℕ} → refused k x ≡ accepted → ⊥
-differs e = let z : _≡_ {A = ℕ} 0 1 = cc in omega arith
 
 -- a search of a test that decides a statement: its refusal is given at the first place, or passed
 module _ {t : ℕ → Bool} {P : ℕ → Type 0} (d : Decides t P) where
@@ -263,11 +261,11 @@ reads H = subst (Reads H) (reads-only H (decides H .0) (decides H .1)) (decides 
 
 -- a matrix is accepted exactly where it has what an accepted matrix has
 only-fine : {H : Matrix} {v : Verdict} → Reads H v → v ≡ accepted → Accepted H
-only-fine (sizes-out h) e = absurd (differs e)
-only-fine (length-wrong s h) e = absurd (differs e)
-only-fine (entry-bad s l f) e = absurd (differs e)
-only-fine (weight-bad s l c f) e = absurd (differs e)
-only-fine (rows-overlap s l c w f) e = absurd (differs e)
+only-fine (sizes-out h) e = absurd (not-accepted e)
+only-fine (length-wrong s h) e = absurd (not-accepted e)
+only-fine (entry-bad s l f) e = absurd (not-accepted e)
+only-fine (weight-bad s l c f) e = absurd (not-accepted e)
+only-fine (rows-overlap s l c w f) e = absurd (not-accepted e)
 only-fine (fine a) e = a
 
 pub accepted-is : (H : Matrix) → checkOf H ≡ accepted → Accepted H

@@ -4,12 +4,12 @@ use mathlib.Core.Bool.{true, false, _||_}
 use mathlib.Core.List.{List}
 use Prim.Native.Nat.{ℕ, _+_, _*_, _-_, _≤_, _<_}
 use native.Mathlib.Omega.{arith}
-use lib.Dec.{eqb, ltb}
+use lib.Dec.{ltb}
 use lib.ListN.{length, take}
 use borrow.Author.Tests.{eq-eqb, ne-eqb, lt-ltb, le-ltb}
 use Rattle.counting.specs.Lists.{over}
 use Rattle.counting.proofs.Writing.{take-over}
-use Rattle.answers.specs.Paper.{accepted, refused, Said, refusal, report, refuseWhen, written}
+use Rattle.answers.specs.Paper.{accepted, refused, Said, refusal, report, refuseWhen}
 use Rattle.packed_word.specs.Packed.{bitAt, bytesFor, pack, spareSet, distance}
 use Rattle.packed_word.specs.Steps.{at, Unpacked}
 use Rattle.packed_word.proofs.Packing.{bit-bit, length-pack, bitAt-pack, spare-pack, pack-cong, spare-clear}
@@ -26,11 +26,6 @@ use Rattle.majority_logic.proofs.FlippingRule.{flipping-rule}
 use Rattle.majority_logic.proofs.Agreement.{stepWord-cong, stepRounds-cong}
 use Rattle.majority_logic.proofs.Correction.{stepWord-bit}
 use Rattle.one_step.specs.Stepped.{Stepped, Lent, Voted, Answered}
-
--- the received word, unpacked, is a word
-pub unpacked-word : (H : Matrix) (w old bits : List ℕ) → Unpacked (H .n) w old bits → Word H (at bits)
-unfolding Word
-unpacked-word H w old bits u j h = omega (arith, u .each j h, bit-bit w j)
 
 module _ (H : Matrix) (w old : List ℕ) (l : Lent H w old) where
   received-word : Word H (bitAt w)

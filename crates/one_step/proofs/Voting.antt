@@ -3,13 +3,13 @@ use mathlib.Core.Path.{_≡_, sym, ap, _∙_}
 use mathlib.Core.List.{List}
 use Prim.Native.Nat.{ℕ, _*_, _<_}
 use native.Mathlib.Omega.{arith}
-use lib.Dec.{ltb, eqb}
+use lib.Dec.{ltb}
 use borrow.Author.Tests.{eq-eqb, ne-eqb}
 use Rattle.packed_word.specs.Steps.{at}
 use Rattle.parity_check.specs.Code.{Matrix, Word, failing}
 use Rattle.parity_check.specs.Reading.{Accepted}
 use Rattle.parity_check.proofs.Rows.{failing-cong}
-use Rattle.majority_logic.specs.Voting.{flipped, flipWhen}
+use Rattle.majority_logic.specs.Voting.{flipWhen}
 use Rattle.majority_logic.specs.OneStep.{stepWord, stepRounds}
 use Rattle.majority_logic.proofs.Correction.{flipped-by, stepWord-flipped, stepWord-bit}
 use Rattle.votes.specs.Tallies.{Tallied, Voted}

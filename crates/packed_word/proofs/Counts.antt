@@ -13,8 +13,8 @@ use Rattle.counting.specs.Sum.{sum, differ}
 use Rattle.counting.proofs.Sums.{sum-cong, sum-append, sum-bound}
 use Rattle.packed_word.specs.Packed.{bitAt, distance}
 use Rattle.packed_word.specs.Steps.{apart}
-use Rattle.packed_word.proofs.Digits.{digit}
-use Rattle.packed_word.proofs.Masks.{xor-digit}
+use Rattle.counting.specs.Digits.{digit}
+use Rattle.counting.proofs.Digits.{digit-xor}
 use Rattle.packed_word.proofs.Packing.{bit-of}
 use Rattle.packed_word.proofs.Distances.{differ-le}
 
@@ -30,7 +30,7 @@ xor-differ (suc (suc x)) y h l = absurd (omega arith)
 
 -- digit k of the exclusive or says whether the digits differ
 xor-apart : (x y k : ℕ) → digit (bitXor x y) k ≡ differ (digit x k) (digit y k)
-xor-apart x y k = xor-digit x y k ∙ xor-differ (digit x k) (digit y k) (omega arith) (omega arith)
+xor-apart x y k = digit-xor x y k ∙ xor-differ (digit x k) (digit y k) (omega arith) (omega arith)
 
 -- ---- the set digits of a byte
 

@@ -1,15 +1,12 @@
 -- Binary digits of a byte: the byte made of eight bits, and the eight bits of a byte. Assumes nothing.
 use mathlib.Core.Path.{_≡_, ap, _∙_}
-use Prim.Native.Nat.{ℕ, zero, suc, _+_, _*_, _-_, _/_, _%_, _^_, _<_}
+use Prim.Native.Nat.{ℕ, zero, suc, _+_, _*_, _-_, _/_, _^_, _<_}
 use native.Mathlib.Nat.{div-eq-of-lt}
 use native.Mathlib.Omega.{arith}
 use lib.Pow.{shr-shr}
 use native.Mathlib.Numerals.{add-one}
+use Rattle.counting.specs.Digits.{digit}
 use Rattle.counting.specs.Sum.{sum}
-
--- digit k of the number b
-abbrev pub digit : ℕ → ℕ → ℕ
-digit b k = b / 2 ^ k % 2
 
 -- the byte with bits f 0 .. f 7, the highest first
 abbrev pub byte : (ℕ → ℕ) → ℕ

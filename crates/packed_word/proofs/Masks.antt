@@ -5,14 +5,9 @@ use native.Mathlib.Nat.{div-self, div-eq-of-lt, mul-div-cancel, mul-mod-left, on
 use native.Mathlib.Decide.{decLt}
 use native.Mathlib.Omega.{arith}
 use lib.Pow.{pow-pos, pow-lt, pow-add, shl-exact}
-use lib.Bits.{bitOr, bitXor, or-shr, or-mod, xor-shr, xor-mod, or-zero-r, xor-zero-r, or-shifted}
-use Rattle.packed_word.proofs.Digits.{digit}
-
-or-digit : (a b k : ℕ) → digit (bitOr a b) k ≡ bitOr (digit a k) (digit b k)
-or-digit a b k = ap (λ (x : ℕ). x % 2) (or-shr a b k) ∙ or-mod (a / 2 ^ k) (b / 2 ^ k) 1
-
-pub xor-digit : (a b k : ℕ) → digit (bitXor a b) k ≡ bitXor (digit a k) (digit b k)
-xor-digit a b k = ap (λ (x : ℕ). x % 2) (xor-shr a b k) ∙ xor-mod (a / 2 ^ k) (b / 2 ^ k) 1
+use lib.Bits.{bitOr, bitXor, or-zero-r, xor-zero-r, or-shifted}
+use Rattle.counting.specs.Digits.{digit}
+use Rattle.counting.proofs.Digits.{digit-or, digit-xor, or-one}
 
 -- ---- the only digit of 2 ^ k
 
@@ -35,16 +30,11 @@ one-there k l h =
 
 -- ---- one digit set
 
-or-one : (x : ℕ) → x < 2 → bitOr x 1 ≡ 1
-or-one zero h = refl
-or-one (suc zero) h = refl
-or-one (suc (suc x)) h = absurd (omega arith)
-
 pub or-here : (b k : ℕ) → digit (bitOr b (2 ^ k)) k ≡ 1
-or-here b k = or-digit b (2 ^ k) k ∙ ap (bitOr (digit b k)) (one-here k) ∙ or-one (digit b k) (omega arith)
+or-here b k = digit-or b (2 ^ k) k ∙ ap (bitOr (digit b k)) (one-here k) ∙ or-one (digit b k) (omega arith)
 
 pub or-there : (b k l : ℕ) → (l ≡ k → ⊥) → digit (bitOr b (2 ^ k)) l ≡ digit b l
-or-there b k l h = or-digit b (2 ^ k) l ∙ ap (bitOr (digit b l)) (one-there k l h) ∙ or-zero-r (digit b l)
+or-there b k l h = digit-or b (2 ^ k) l ∙ ap (bitOr (digit b l)) (one-there k l h) ∙ or-zero-r (digit b l)
 
 -- ---- one digit turned over
 
@@ -54,10 +44,10 @@ xor-one (suc zero) h = refl
 xor-one (suc (suc x)) h = absurd (omega arith)
 
 pub xor-here : (b k : ℕ) → digit (bitXor b (2 ^ k)) k ≡ 1 - digit b k
-xor-here b k = xor-digit b (2 ^ k) k ∙ ap (bitXor (digit b k)) (one-here k) ∙ xor-one (digit b k) (omega arith)
+xor-here b k = digit-xor b (2 ^ k) k ∙ ap (bitXor (digit b k)) (one-here k) ∙ xor-one (digit b k) (omega arith)
 
 pub xor-there : (b k l : ℕ) → (l ≡ k → ⊥) → digit (bitXor b (2 ^ k)) l ≡ digit b l
-xor-there b k l h = xor-digit b (2 ^ k) l ∙ ap (bitXor (digit b l)) (one-there k l h) ∙ xor-zero-r (digit b l)
+xor-there b k l h = digit-xor b (2 ^ k) l ∙ ap (bitXor (digit b l)) (one-there k l h) ∙ xor-zero-r (digit b l)
 
 -- ---- shifts that a byte has room for
 

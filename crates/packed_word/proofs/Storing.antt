@@ -15,7 +15,7 @@ use Rattle.counting.specs.Lists.{listed, over}
 use Rattle.counting.proofs.Writing.{over-more}
 use Rattle.packed_word.specs.Packed.{bitAt, packedByte}
 use Rattle.packed_word.specs.Steps.{SetBit, FlipBit, Unpacked}
-use Rattle.packed_word.proofs.Digits.{digit}
+use Rattle.counting.specs.Digits.{digit}
 use Rattle.packed_word.proofs.Masks.{or-here, or-there, xor-here, xor-there}
 use Rattle.packed_word.proofs.Packing.{ended}
 

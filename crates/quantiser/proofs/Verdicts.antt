@@ -15,6 +15,7 @@ use borrow.Author.Tests.{ltb-false, lt-ltb, le-ltb}
 use Rattle.counting.specs.Lists.{listed, over}
 use Rattle.counting.proofs.Searches.{cases, or-left, or-right, or-neither, first-none, first-le}
 use Rattle.answers.specs.Paper.{Verdict, accepted, refused, written}
+use Rattle.answers.proofs.Verdicts.{not-accepted}
 use Rattle.packed_word.specs.Packed.{bytesFor, pack}
 use Rattle.packed_word.specs.Steps.{at}
 use Rattle.packed_word.proofs.Packing.{pack-cong}
@@ -59,19 +60,16 @@ module _ (S : Choice) (xs : List Float) (l b : ℕ) where
   accepted-reads e =
       cases (settingFits S)
       (λ fit.
-      cases (tooShort (length xs) l b) (λ short. absurd (apart (sym (verdict-buffer S xs l b fit short) ∙ e)))
+      cases (tooShort (length xs) l b) (λ short. absurd (not-accepted (sym (verdict-buffer S xs l b fit short) ∙ e)))
       (λ room.
       elim (decLt (firstNotFinite xs) (length xs)) [
-        | yes h ↦ absurd (apart (sym (verdict-sample S xs l b fit room h) ∙ e))
+        | yes h ↦ absurd (not-accepted (sym (verdict-sample S xs l b fit room h) ∙ e))
         | no g ↦
             let n = long-enough (length xs) l b room in
             let q : firstNotFinite xs ≡ length xs = omega (arith, first-le (notFinite xs) (length xs)) in
             record { setting = fits-reads S fit; few = n .0; levels = n .1; bytes = n .2; each = all-finite xs q }
       ]))
-      (λ bad. absurd (apart (sym (verdict-setting S xs l b bad) ∙ e)))
-    where
-      apart : {k x : ℕ} → refused k x ≡ accepted → ⊥
-      apart h = let z : _≡_ {A = ℕ} 0 1 = cc in omega arith
+      (λ bad. absurd (not-accepted (sym (verdict-setting S xs l b bad) ∙ e)))
 
   pub reads-accepted : Acceptable S xs l b → quantiseVerdict S xs l b ≡ accepted
   unfolding notFinite

@@ -1,28 +1,19 @@
 -- Laws of the bits of words: binary digits of `&` and `|`, and a bit that is set. Assumes nothing.
-use mathlib.Core.Path.{_≡_, refl, sym, ap, ap₂, _∙_}
+use mathlib.Core.Path.{_≡_, sym, ap, ap₂, _∙_}
 use mathlib.Core.List.{List}
-use Prim.Native.Nat.{ℕ, zero, suc, _*_, _/_, _%_, _^_, _<_}
+use Prim.Native.Nat.{ℕ, _*_, _/_, _%_, _^_, _<_}
 use native.Mathlib.Nat.{zero-div, div-self, one-mul}
 use native.Mathlib.Decide.{ℕ-discrete}
 use native.Mathlib.Omega.{arith}
-use lib.Bits.{bitAnd, bitOr, and-shr, and-mod, and-le-l, and-le-r, or-shr, or-mod, or-comm, or-add-and}
+use lib.Bits.{bitAnd, bitOr, and-le-l, and-le-r, or-comm, or-add-and}
 use lib.ListN.{length, getD, set, length-set}
 use lib.Pow.{pow-pos, shl-exact}
 use lib.Seq.{getD-set-same, getD-set-other}
-use Rattle.row_overlap.specs.Meeting.{digit, Held, Grown}
+use Rattle.counting.specs.Digits.{digit}
+use Rattle.counting.proofs.Digits.{digit-and, digit-or, or-one}
+use Rattle.row_overlap.specs.Meeting.{Held, Grown}
 
 -- ---- binary digits
-
-digit-and : (a b k : ℕ) → digit (bitAnd a b) k ≡ bitAnd (digit a k) (digit b k)
-digit-and a b k = ap (λ (x : ℕ). x % 2) (and-shr a b k) ∙ and-mod (a / 2 ^ k) (b / 2 ^ k) 1
-
-digit-or : (a b k : ℕ) → digit (bitOr a b) k ≡ bitOr (digit a k) (digit b k)
-digit-or a b k = ap (λ (x : ℕ). x % 2) (or-shr a b k) ∙ or-mod (a / 2 ^ k) (b / 2 ^ k) 1
-
-or-one : (x : ℕ) → x < 2 → bitOr x 1 ≡ 1
-or-one zero h = refl
-or-one (suc zero) h = refl
-or-one (suc (suc x)) h = absurd (omega arith)
 
 -- a digit of either part is one of the whole
 pub or-right : (a b k : ℕ) → digit b k ≡ 1 → digit (bitOr a b) k ≡ 1

@@ -1,5 +1,4 @@
 -- Rows that have two columns in common, found by a set of bits: for each column one for each of the 256 rows of a part, in 4 words of 64 bits.
---   digit a b            == place b of a in binary
 --   Held w x             == bit x of the words w is set
 --   Grown x w w′         == w′ has the bits of w, and bit x
 --   bitFor c i           == the bit for column c and row i
@@ -10,16 +9,13 @@
 -- Assumes nothing.
 use mathlib.Core.Path.{_≡_}
 use mathlib.Core.List.{List}
-use Prim.Native.Nat.{ℕ, _+_, _*_, _/_, _%_, _^_, _<_}
+use Prim.Native.Nat.{ℕ, _+_, _*_, _/_, _%_, _<_}
 use lib.Bits.{bitAnd, bitOr}
 use lib.ListN.{length, getD}
+use Rattle.counting.specs.Digits.{digit}
 use Rattle.matrix.specs.Code.{Matrix, entry}
 use Rattle.matrix.specs.Reading.{Overlap}
 use Rattle.row_overlap.specs.declared.Met.{Met}
-
--- place b of a number in binary
-abbrev pub digit : ℕ → ℕ → ℕ
-digit a b = a / 2 ^ b % 2
 
 unfoldable pub Held : List ℕ → ℕ → Type 0
 Held w x = digit (getD w (x / 64) 0) (x % 64) ≡ 1

@@ -6,8 +6,8 @@ use Prim.Native.Nat.{ℕ, _+_, _*_, _<_}
 use native.Mathlib.Numerals.{add-one}
 use native.Mathlib.Omega.{arith}
 use lib.Bits.{bitXor}
-use lib.ListN.{length, set, length-set}
-use Rattle.counting.specs.Sum.{sum, differ}
+use lib.ListN.{set, length-set}
+use Rattle.counting.specs.Sum.{sum}
 use Rattle.counting.proofs.Sums.{differ-eq, differ-ne, same-refl, same-ne}
 use Rattle.counting.proofs.Writing.{stored}
 use Rattle.packed_word.specs.Steps.{at}

@@ -21,11 +21,6 @@ use Rattle.iterative.proofs.Holding.{holds-word, round-holds}
 use Rattle.iterative.proofs.Running.{holds-alike}
 use Rattle.session_rounds.specs.Leaving.{lentState, Lent, Turned}
 
--- the word, unpacked, is a word
-pub unpacked-word : (H : Matrix) (word old bits : List ℕ) → Unpacked (H .n) word old bits → Word H (at bits)
-unfolding Word
-unpacked-word H word old bits u j l = omega (arith, u .each j l, bit-bit word j)
-
 module _ (H : Matrix) (L : ℕ) (word : List ℕ) (levels : List ℤ) (p : Lent H L word levels) (zeros bits kept votes : List ℕ) (f : ℕ)
     (u : Unpacked (H .n) word zeros bits) (b : Biased (H .n) L levels kept) (t : Tallied H (at bits) votes f) where
   -- the arrays hold what is lent

@@ -9,7 +9,8 @@ use Rattle.answers.specs.Answers.{reportOf}
 use Rattle.packed_word.specs.Packed.{bytesFor}
 use Rattle.parity_check.specs.Code.{Matrix}
 use Rattle.parity_check.specs.Shapes.{matrixOf}
-use Rattle.one_step.proofs.Answering.{unpacked-word, stepped-bits, written-long, voted-call}
+use Rattle.syndrome.proofs.Unpacking.{unpacked-word}
+use Rattle.one_step.proofs.Answering.{stepped-bits, written-long, voted-call}
 use Rattle.one_step.proofs.one_step_accepted.Statement.{statement}
 use Rattle.one_step.proofs.one_step_accepted.Tie as tie
 

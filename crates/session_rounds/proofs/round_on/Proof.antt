@@ -3,7 +3,8 @@ use borrow.Author.Needs.{needs}
 use Rattle.packed_word.specs.Steps.{at}
 use Rattle.parity_check.specs.Code.{Matrix, Word}
 use Rattle.parity_check.specs.Shapes.{matrixOf}
-use Rattle.session_rounds.proofs.Rounding.{unpacked-word, next-word, next-restorable, turned}
+use Rattle.syndrome.proofs.Unpacking.{unpacked-word}
+use Rattle.session_rounds.proofs.Rounding.{next-word, next-restorable, turned}
 use Rattle.session_rounds.proofs.round_on.Statement.{statement}
 use Rattle.session_rounds.proofs.round_on.Tie as tie
 
