@@ -12,9 +12,10 @@ run: tools decode
 	cargo run --release --quiet -p pack -- --matrix examples/tanner155.alist --setting "$(SETTING)" --samples examples/blocks.csv | target/bin/decode
 
 # The layout, the Rust tests, then the gate: its 'N passed, 0 failed' is the last line.
+# What `ffi` rests on is checked with the program, as `rt staticlib` would check it crate after crate.
 test: tools
 	rt fmt --check
-	rt check decode
+	rt check decode session codes one_step
 	$(MAKE) --no-print-directory staticlib
 	cargo test --release --workspace
 	rt ci
