@@ -3,3 +3,5 @@ pub mod Code
 pub mod Check
 pub mod Reading
 pub mod Shapes
+pub mod Ordered
+pub mod Tallies

@@ -3,4 +3,3 @@ pub use Rattle.matrix.specs.Code
 pub use Rattle.matrix.specs.Check
 pub use Rattle.matrix.specs.Reading
 pub use Rattle.matrix.specs.Shapes
-pub mod Walking

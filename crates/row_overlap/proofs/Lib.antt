@@ -1,4 +1,2 @@
-pub mod Ordered
-pub mod Tallies
 pub mod Words
 pub mod Meeting

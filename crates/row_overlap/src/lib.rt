@@ -10,8 +10,8 @@ ghost use Rattle.matrix.specs.Code.{entry, common};
 ghost use Rattle.matrix.specs.Check.{overlapping};
 ghost use Rattle.matrix.specs.Reading.{Overlap, Never};
 ghost use Rattle.matrix.specs.Shapes.{matrixOf};
-ghost use Rattle.row_overlap.specs.Ordered.{Ordered, Column};
-ghost use Rattle.row_overlap.specs.Tallies.{Tally};
+ghost use Rattle.matrix.specs.Ordered.{Ordered, Column};
+ghost use Rattle.matrix.specs.Tallies.{Tally};
 ghost use Rattle.row_overlap.specs.Meeting.{Meets, MetOnce, bitFor, Grown, Noted, PartClear};
 
 // The bits that were met in one word after another, and those of them that were met twice.

@@ -11,9 +11,9 @@ use Rattle.matrix.specs.Check.{badEntry, badWeight}
 use Rattle.matrix.specs.Reading.{BadEntry, BadWeight, Never, entry-bad, weight-bad, rows-overlap, fine}
 use Rattle.matrix.specs.Shapes.{matrixOf}
 use Rattle.matrix.proofs.Reading.{entries, weights, overlaps, accepts, reads-only}
-use Rattle.row_overlap.proofs.Ordered.{few}
-use Rattle.row_overlap.proofs.Tallies.{tally-none}
-use Rattle.parity_check.proofs.Weights.{tally-off}
+use Rattle.matrix.proofs.Ordered.{few}
+use Rattle.matrix.proofs.Tallies.{tally-none}
+use Rattle.column_weights.proofs.Weights.{tally-off}
 use Rattle.parity_check.proofs.check_list.Statement.{statement}
 use Rattle.parity_check.proofs.check_list.Tie as tie
 

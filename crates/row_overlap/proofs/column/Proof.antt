@@ -4,7 +4,7 @@ use Prim.Native.Nat.{_+_, _*_}
 use native.Mathlib.Omega.{arith}
 use borrow.Author.Needs.{needs}
 use Rattle.matrix.specs.Code.{entry}
-use Rattle.row_overlap.proofs.Ordered.{few, in-list, column-in, column-below}
+use Rattle.matrix.proofs.Ordered.{few, in-list, column-in, column-below}
 use Rattle.row_overlap.proofs.column.Statement.{statement}
 use Rattle.row_overlap.proofs.column.Tie as tie
 

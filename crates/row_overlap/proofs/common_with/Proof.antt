@@ -7,9 +7,9 @@ use lib.ListN.{getD}
 use Rattle.counting.specs.Sum.{sum}
 use Rattle.matrix.specs.Code.{entry}
 use Rattle.matrix.specs.Shapes.{matrixOf}
-use Rattle.row_overlap.specs.Tallies.{markAt}
-use Rattle.row_overlap.proofs.Ordered.{column-below}
-use Rattle.row_overlap.proofs.Tallies.{tally-le, tally-common}
+use Rattle.matrix.specs.Tallies.{markAt}
+use Rattle.matrix.proofs.Ordered.{column-below}
+use Rattle.matrix.proofs.Tallies.{tally-le, tally-common}
 use Rattle.row_overlap.proofs.common_with.Statement.{statement}
 use Rattle.row_overlap.proofs.common_with.Tie as tie
 

@@ -4,8 +4,8 @@ use Prim.Native.Nat.{ℕ, _-_, _≤_}
 use native.Mathlib.Omega.{arith}
 use Rattle.matrix.specs.Code.{entry}
 use Rattle.matrix.specs.Shapes.{matrixOf}
-use Rattle.row_overlap.specs.Tallies.{Tally}
-use Rattle.row_overlap.proofs.Tallies.{tally-none, tally-more, tally-le}
+use Rattle.matrix.specs.Tallies.{Tally}
+use Rattle.matrix.proofs.Tallies.{tally-none, tally-more, tally-le}
 use Rattle.row_overlap.proofs.marks_of.Statement.{statement}
 use Rattle.row_overlap.proofs.marks_of.Tie as tie
 

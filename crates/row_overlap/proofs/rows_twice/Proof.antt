@@ -5,7 +5,7 @@ use native.Mathlib.Omega.{arith}
 use lib.ListN.{length}
 use Rattle.counting.proofs.Searches.{never}
 use Rattle.matrix.specs.Shapes.{matrixOf}
-use Rattle.row_overlap.proofs.Ordered.{columns-ascend}
+use Rattle.matrix.proofs.Ordered.{columns-ascend}
 use Rattle.row_overlap.proofs.Meeting.{RowsIn, ClearTo, rows-more, clear-more, part-clear}
 use Rattle.row_overlap.proofs.rows_twice.Statement.{statement}
 use Rattle.row_overlap.proofs.rows_twice.Tie as tie

@@ -12,7 +12,7 @@ use lib.ListN.{length, getD}
 use Rattle.counting.specs.Search.{first}
 use Rattle.matrix.specs.Code.{Matrix}
 use Rattle.matrix.specs.Check.{badEntry}
-use Rattle.row_overlap.specs.Tallies.{Tally}
+use Rattle.matrix.specs.Tallies.{Tally}
 
 -- entry p of the list
 abbrev pub listAt : Matrix → ℕ → ℕ

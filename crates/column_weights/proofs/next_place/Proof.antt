@@ -4,8 +4,8 @@ use Prim.Native.Nat.{ℕ, _%_}
 use native.Mathlib.Nat.{mod-self, mod-eq-of-lt}
 use native.Mathlib.Omega.{arith}
 use borrow.Author.Needs.{needs}
-use Rattle.parity_check.proofs.next_place.Statement.{statement}
-use Rattle.parity_check.proofs.next_place.Tie as tie
+use Rattle.column_weights.proofs.next_place.Statement.{statement}
+use Rattle.column_weights.proofs.next_place.Tie as tie
 
 add-if1 : tie.Need-add-if1
 add-if1 c = search needs

@@ -10,9 +10,9 @@ use lib.ListN.{getD, set, replicate, getD-replicate, length-replicate, length-se
 use lib.Seq.{getD-set-same, getD-set-other}
 use Rattle.counting.specs.Sum.{sum, same}
 use Rattle.counting.proofs.Sums.{sum-bound, sum-cong, same-le, same-ne, same-refl}
 use Rattle.matrix.specs.Code.{Matrix, entry, has, common}
-use Rattle.row_overlap.specs.Tallies.{Tally, markAt}
+use Rattle.matrix.specs.Tallies.{Tally, markAt}
 use Rattle.matrix.proofs.Rows.{common-sym}
 
 module _ (f : ℕ → ℕ) where
   pub tally-none : Tally f 0 (replicate 1023 0)

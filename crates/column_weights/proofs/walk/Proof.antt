@@ -9,13 +9,13 @@ use lib.ListN.{length}
 use Rattle.counting.proofs.Searches.{first-none, first-at}
 use Rattle.matrix.specs.Check.{badEntry}
 use Rattle.matrix.specs.Shapes.{matrixOf}
-use Rattle.row_overlap.specs.Tallies.{Tally}
-use Rattle.row_overlap.proofs.Ordered.{few}
-use Rattle.row_overlap.proofs.Tallies.{tally-more, tally-le}
-use Rattle.parity_check.specs.Walking.{listAt}
-use Rattle.parity_check.proofs.Weights.{good-below}
-use Rattle.parity_check.proofs.walk.Statement.{statement}
-use Rattle.parity_check.proofs.walk.Tie as tie
+use Rattle.matrix.specs.Tallies.{Tally}
+use Rattle.matrix.proofs.Ordered.{few}
+use Rattle.matrix.proofs.Tallies.{tally-more, tally-le}
+use Rattle.column_weights.specs.Walking.{listAt}
+use Rattle.column_weights.proofs.Weights.{good-below}
+use Rattle.column_weights.proofs.walk.Statement.{statement}
+use Rattle.column_weights.proofs.walk.Tie as tie
 
 abbrev Inv-loop : tie.InvT-loop
 Inv-loop shape list weights₀ rho p₀ k₀ weights p k =

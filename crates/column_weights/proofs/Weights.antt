@@ -15,8 +15,8 @@ use Rattle.matrix.specs.Code.{Matrix, weight}
 use Rattle.matrix.specs.Check.{badEntry, badWeight}
 use Rattle.matrix.proofs.Rows.{weight-flat}
 use Rattle.matrix.proofs.Reading.{entry-clear}
-use Rattle.row_overlap.specs.Tallies.{Tally}
-use Rattle.parity_check.specs.Walking.{listAt, offWeight}
+use Rattle.matrix.specs.Tallies.{Tally}
+use Rattle.column_weights.specs.Walking.{listAt, offWeight}
 
 module _ (H : Matrix) where
   -- an entry that is not bad is a column

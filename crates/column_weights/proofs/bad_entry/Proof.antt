@@ -8,8 +8,8 @@ use borrow.Author.Tests.{le-leb, lt-leb, le-ltb, lt-ltb}
 use lib.Dec.{ltb}
 use Rattle.matrix.specs.Check.{badEntry}
 use borrow.Author.Needs.{needs}
-use Rattle.parity_check.proofs.bad_entry.Statement.{statement}
-use Rattle.parity_check.proofs.bad_entry.Tie as tie
+use Rattle.column_weights.proofs.bad_entry.Statement.{statement}
+use Rattle.column_weights.proofs.bad_entry.Tie as tie
 
 -- an entry that does not begin a row is not the first
 not-first : (p rho : ℕ) → (p % rho ≡ 0 → ⊥) → 1 ≤ p

@@ -6,9 +6,9 @@ use native.Mathlib.Omega.{arith}
 use borrow.Author.Count.{below-more}
 use borrow.Author.Tests.{eq-eqb, ne-eqb}
 use Rattle.counting.proofs.Searches.{first-none, first-at}
-use Rattle.parity_check.specs.Walking.{offWeight}
-use Rattle.parity_check.proofs.first_off_weight.Statement.{statement}
-use Rattle.parity_check.proofs.first_off_weight.Tie as tie
+use Rattle.column_weights.specs.Walking.{offWeight}
+use Rattle.column_weights.proofs.first_off_weight.Statement.{statement}
+use Rattle.column_weights.proofs.first_off_weight.Tie as tie
 
 abbrev Inv-loop : tie.InvT-loop
 Inv-loop weights n gamma j₀ j =

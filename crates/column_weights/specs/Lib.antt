@@ -1,0 +1,2 @@
+-- What the contracts of `column_weights` cite.
+pub mod Walking
