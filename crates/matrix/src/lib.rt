@@ -1,5 +1,8 @@
 // The parity-check matrix: its sizes, the definitions over it, and what the matrix check is to say (specs/), with their laws (proofs/).
-// Rests on `counting` and `answers`; it has no code. Document 01: "The code and the block", "Refused for the input" 1 to 5.
+// Rests on `counting` and `answers`; its one function reads an entry. Document 01: "The code and the block", "Refused for the input" 1 to 5.
+ghost use Prim.Native.Nat.{_<_};
+ghost use Rattle.matrix.specs.Ordered.{Ordered, Column};
+ghost use Rattle.matrix.specs.Shapes.{matrixOf};
 
 // The sizes of a matrix: columns, rows, ones in each row, ones in each column.
 pub struct Shape {
@@ -7,4 +10,13 @@ pub struct Shape {
     pub m: u16,
     pub rho: u16,
     pub gamma: u16,
+}
+
+// The k-th column number of row i. Only this repository's crates call it, after asking refusals 1 to 3.
+pub fn column(shape: Shape, list: &[u16], i: usize, k: usize) -> usize
+    requires { ⌜ Ordered (matrixOf shape (now list)) × (i < shape .m) × (k < shape .rho) ⌝ }
+    ensures { λ r. ⌜ Column (matrixOf shape (now (list .entry))) i k r ⌝ }
+{
+    let rho = shape.rho as usize;
+    list[i * rho + k] as usize
 }

@@ -1,17 +1,19 @@
 // The matrix check: accepts the parity-check matrix or refuses it, and passes on the matrix's definitions.
-// Rests on `matrix`, `column_weights`, `row_overlap` and `answers`. Document 01: "The code and the block", "Refused for the input" 1 to 5.
+// Rests on `matrix`, `column_weights`, `row_meeting`, `row_overlap` and `answers`. Document 01: "The code and the block", "Refused for the input" 1 to 5.
 use answers::Checked;
 use answers::Refusal;
 use column_weights::first_off_weight;
 use column_weights::walk;
 pub use matrix::Shape;
-use row_overlap::first_overlap;
+use row_meeting::pair_twice;
+use row_overlap::exact_overlap;
 ghost use mathlib.Core.Path.{_≡_};
 ghost use mathlib.Core.List.{[]};
+ghost use Rattle.counting.specs.Search.{first};
 ghost use Rattle.answers.specs.Answers.{verdictOf};
-ghost use Rattle.matrix.specs.Check.{within, sizesFit, checkOf};
+ghost use Rattle.matrix.specs.Check.{within, sizesFit, overlapping, checkOf};
+ghost use Rattle.matrix.specs.Ordered.{Sized, Ordered};
 ghost use Rattle.matrix.specs.Shapes.{matrixOf};
-ghost use Rattle.matrix.specs.Ordered.{Sized};
 
 // Whether x lies from lo to hi.
 fn in_range(lo: u16, x: u16, hi: u16) -> bool
@@ -31,6 +33,18 @@ fn sizes_fit(shape: Shape) -> bool
         & in_range(2, shape.rho, 32)
         & in_range(1, shape.gamma, 32)
         & (ones_by_row == ones_by_column)
+}
+
+// The first row that shares two columns or more with a later row, else m.
+// An accepted matrix has none, which `pair_twice` shows soon: the exact search is for a refused one.
+fn first_overlap(shape: Shape, list: &[u16]) -> usize
+    requires { ⌜ Ordered (matrixOf shape (now list)) ⌝ }
+    ensures { λ r. ⌜ r ≡ first (overlapping (matrixOf shape (now (list .entry)))) (shape .m) ⌝ }
+{
+    if pair_twice(shape, list) {
+        return exact_overlap(shape, list);
+    }
+    shape.m as usize
 }
 
 // The matrix check once the sizes and the length are right: refusals 3 to 5.

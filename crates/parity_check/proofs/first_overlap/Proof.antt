@@ -1,4 +1,4 @@
--- `row_overlap::first_overlap` meets its contract. Assumes nothing.
+-- `parity_check::first_overlap` meets its contract. Assumes nothing.
 use mathlib.Core.Path.{sym}
 use Rattle.counting.proofs.Searches.{first-none}
 use Rattle.counting.proofs.Deciding.{test-fails}
@@ -6,8 +6,8 @@ use Rattle.matrix.specs.Check.{overlapping}
 use Rattle.matrix.specs.Shapes.{matrixOf}
 use Rattle.matrix.proofs.Reading.{overlaps}
 use borrow.Author.Needs.{needs}
-use Rattle.row_overlap.proofs.first_overlap.Statement.{statement}
-use Rattle.row_overlap.proofs.first_overlap.Tie as tie
+use Rattle.parity_check.proofs.first_overlap.Statement.{statement}
+use Rattle.parity_check.proofs.first_overlap.Tie as tie
 
 pair-twice-requires : tie.Need-pair-twice-requires
 pair-twice-requires c κs = search needs

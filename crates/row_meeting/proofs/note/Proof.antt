@@ -1,12 +1,12 @@
--- `row_overlap::note` meets its contract. Assumes nothing.
+-- `row_meeting::note` meets its contract. Assumes nothing.
 use mathlib.Core.Path.{_≡_}
 use Prim.Native.Nat.{_+_, _*_, _/_, _%_}
 use native.Mathlib.Omega.{arith}
-use Rattle.row_overlap.specs.Meeting.{bitFor}
-use Rattle.row_overlap.proofs.Words.{grown, shifted}
+use Rattle.row_meeting.specs.Meeting.{bitFor}
+use Rattle.row_meeting.proofs.Words.{grown, shifted}
 use borrow.Author.Needs.{needs}
-use Rattle.row_overlap.proofs.note.Statement.{statement}
-use Rattle.row_overlap.proofs.note.Tie as tie
+use Rattle.row_meeting.proofs.note.Statement.{statement}
+use Rattle.row_meeting.proofs.note.Tie as tie
 
 mul-at : tie.Need-mul-at
 mul-at c = search needs

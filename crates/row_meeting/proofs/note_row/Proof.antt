@@ -1,4 +1,4 @@
--- `row_overlap::note_row` meets its contract. The loop's invariant: bits are kept, and the columns passed are noted. Assumes nothing.
+-- `row_meeting::note_row` meets its contract. The loop's invariant: bits are kept, and the columns passed are noted. Assumes nothing.
 use mathlib.Core.Path.{_≡_, refl, subst, _∙_}
 use Prim.Native.Nat.{ℕ, _-_, _≤_, _<_}
 use native.Mathlib.Omega.{arith}
@@ -6,9 +6,9 @@ use borrow.Author.Count.{below-more}
 use lib.ListN.{length}
 use Rattle.matrix.specs.Code.{entry}
 use Rattle.matrix.specs.Shapes.{matrixOf}
-use Rattle.row_overlap.specs.Meeting.{Held, bitFor}
-use Rattle.row_overlap.proofs.note_row.Statement.{statement}
-use Rattle.row_overlap.proofs.note_row.Tie as tie
+use Rattle.row_meeting.specs.Meeting.{Held, bitFor}
+use Rattle.row_meeting.proofs.note_row.Statement.{statement}
+use Rattle.row_meeting.proofs.note_row.Tie as tie
 
 abbrev Inv-loop : tie.InvT-loop
 Inv-loop shape list part i seen₀ rho k₀ seen k =

@@ -1,12 +1,12 @@
--- `row_overlap::column` meets its contract. Assumes nothing.
+-- `matrix::column` meets its contract. Assumes nothing.
 use mathlib.Core.Path.{refl}
 use Prim.Native.Nat.{_+_, _*_}
 use native.Mathlib.Omega.{arith}
 use borrow.Author.Needs.{needs}
 use Rattle.matrix.specs.Code.{entry}
 use Rattle.matrix.proofs.Ordered.{few, in-list, column-in, column-below}
-use Rattle.row_overlap.proofs.column.Statement.{statement}
-use Rattle.row_overlap.proofs.column.Tie as tie
+use Rattle.matrix.proofs.column.Statement.{statement}
+use Rattle.matrix.proofs.column.Tie as tie
 
 cast-rho : tie.Need-cast-rho
 cast-rho c = search needs

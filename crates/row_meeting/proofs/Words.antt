@@ -11,7 +11,7 @@ use lib.Pow.{pow-pos, shl-exact}
 use lib.Seq.{getD-set-same, getD-set-other}
 use Rattle.counting.specs.Digits.{digit}
 use Rattle.counting.proofs.Digits.{digit-and, digit-or, or-one}
-use Rattle.row_overlap.specs.Meeting.{Held, Grown}
+use Rattle.row_meeting.specs.Meeting.{Held, Grown}
 
 -- ---- binary digits
 

@@ -13,10 +13,10 @@ use Rattle.counting.proofs.Ascending.{ascending-once}
 use Rattle.matrix.specs.Code.{Matrix, entry, has, common}
 use Rattle.matrix.specs.Reading.{Overlap, Never}
 use Rattle.counting.specs.Digits.{digit}
-use Rattle.row_overlap.specs.Meeting.{Held, bitFor, Meets, MetOnce, Noted, PartClear}
-use Rattle.row_overlap.specs.declared.Met.{Met}
+use Rattle.row_meeting.specs.Meeting.{Held, bitFor, Meets, MetOnce, Noted, PartClear}
+use Rattle.row_meeting.specs.declared.Met.{Met}
 use Rattle.matrix.proofs.Rows.{common-sym}
-use Rattle.row_overlap.proofs.Words.{or-left, or-right, and-none, or-none}
+use Rattle.row_meeting.proofs.Words.{or-left, or-right, and-none, or-none}
 
 -- ---- words that are met one after the other
 

@@ -1,13 +1,13 @@
--- `row_overlap::pair_twice` meets its contract. The loop's invariant: no row of the parts passed has two columns in common with a later row. Assumes nothing.
+-- `row_meeting::pair_twice` meets its contract. The loop's invariant: no row of the parts passed has two columns in common with a later row. Assumes nothing.
 use Prim.Native.Nat.{ℕ, _-_, _≤_, _<_}
 use native.Mathlib.Omega.{arith}
 use borrow.Author.Count.{below-more}
 use Rattle.counting.proofs.Searches.{never}
 use Rattle.matrix.specs.Shapes.{matrixOf}
-use Rattle.row_overlap.specs.Meeting.{PartClear}
-use Rattle.row_overlap.proofs.Meeting.{parts-clear}
-use Rattle.row_overlap.proofs.pair_twice.Statement.{statement}
-use Rattle.row_overlap.proofs.pair_twice.Tie as tie
+use Rattle.row_meeting.specs.Meeting.{PartClear}
+use Rattle.row_meeting.proofs.Meeting.{parts-clear}
+use Rattle.row_meeting.proofs.pair_twice.Statement.{statement}
+use Rattle.row_meeting.proofs.pair_twice.Tie as tie
 
 abbrev Inv-loop : tie.InvT-loop
 Inv-loop shape list m part₀ part =

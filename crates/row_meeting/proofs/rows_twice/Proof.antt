@@ -1,4 +1,4 @@
--- `row_overlap::rows_twice` meets its contract. The loop's invariant: the part's rows passed are noted, and none has two columns in common with a later row passed. Assumes nothing.
+-- `row_meeting::rows_twice` meets its contract. The loop's invariant: the part's rows passed are noted, and none has two columns in common with a later row passed. Assumes nothing.
 use mathlib.Core.Path.{_≡_, refl, _∙_}
 use Prim.Native.Nat.{_-_, _≤_}
 use native.Mathlib.Omega.{arith}
@@ -6,9 +6,9 @@ use lib.ListN.{length}
 use Rattle.counting.proofs.Searches.{never}
 use Rattle.matrix.specs.Shapes.{matrixOf}
 use Rattle.matrix.proofs.Ordered.{columns-ascend}
-use Rattle.row_overlap.proofs.Meeting.{RowsIn, ClearTo, rows-more, clear-more, part-clear}
-use Rattle.row_overlap.proofs.rows_twice.Statement.{statement}
-use Rattle.row_overlap.proofs.rows_twice.Tie as tie
+use Rattle.row_meeting.proofs.Meeting.{RowsIn, ClearTo, rows-more, clear-more, part-clear}
+use Rattle.row_meeting.proofs.rows_twice.Statement.{statement}
+use Rattle.row_meeting.proofs.rows_twice.Tie as tie
 
 abbrev Inv-loop : tie.InvT-loop
 Inv-loop shape list part seen₀ m i₀ seen i =

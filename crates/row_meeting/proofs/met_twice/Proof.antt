@@ -1,13 +1,13 @@
--- `row_overlap::met_twice` meets its contract. The loop's invariant: of the columns passed, each of the four words is met. Assumes nothing.
+-- `row_meeting::met_twice` meets its contract. The loop's invariant: of the columns passed, each of the four words is met. Assumes nothing.
 use mathlib.Core.Path.{_≡_, ap}
 use Prim.Native.Nat.{ℕ, _+_, _*_, _-_, _≤_}
 use native.Mathlib.Omega.{arith}
 use lib.ListN.{getD}
 use Rattle.matrix.specs.Code.{entry}
 use Rattle.matrix.specs.Shapes.{matrixOf}
-use Rattle.row_overlap.proofs.Meeting.{Gone, wordAt, gone-none, gone-more, met-once}
-use Rattle.row_overlap.proofs.met_twice.Statement.{statement}
-use Rattle.row_overlap.proofs.met_twice.Tie as tie
+use Rattle.row_meeting.proofs.Meeting.{Gone, wordAt, gone-none, gone-more, met-once}
+use Rattle.row_meeting.proofs.met_twice.Statement.{statement}
+use Rattle.row_meeting.proofs.met_twice.Tie as tie
 
 abbrev Inv-loop : tie.InvT-loop
 Inv-loop shape list i seen rho a₀ b₀ c₀ d₀ k₀ a b c d k =

@@ -15,7 +15,7 @@ use lib.ListN.{length, getD}
 use Rattle.counting.specs.Digits.{digit}
 use Rattle.matrix.specs.Code.{Matrix, entry}
 use Rattle.matrix.specs.Reading.{Overlap}
-use Rattle.row_overlap.specs.declared.Met.{Met}
+use Rattle.row_meeting.specs.declared.Met.{Met}
 
 unfoldable pub Held : List ℕ → ℕ → Type 0
 Held w x = digit (getD w (x / 64) 0) (x % 64) ≡ 1

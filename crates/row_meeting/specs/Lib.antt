@@ -1,0 +1,2 @@
+-- What the contracts of `row_meeting` cite.
+pub mod Meeting

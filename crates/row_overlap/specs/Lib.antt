@@ -1,2 +1,0 @@
--- What the contracts of `row_overlap` cite.
-pub mod Meeting
