@@ -2,9 +2,9 @@
 use mathlib.Core.Path.{_≡_, ap, _∙_}
 use Prim.Native.Nat.{ℕ, _+_, _*_, _-_, _≤_}
 use native.Mathlib.Omega.{arith}
-use Rattle.packed_word.specs.Steps.{at}
-use Rattle.packed_word.proofs.Packing.{ended-bit, ended-small}
-use Rattle.packed_word.proofs.Storing.{eight, joined, joined-none, joined-more, joined-all, joined-room}
+use Rattle.packed_bits.specs.Steps.{at}
+use Rattle.packed_bits.proofs.Packing.{ended-bit, ended-small}
+use Rattle.packed_bits.proofs.Storing.{eight, joined, joined-none, joined-more, joined-all, joined-room}
 use Rattle.packed_word.proofs.packed_byte.Statement.{statement}
 use Rattle.packed_word.proofs.packed_byte.Tie as tie
 

@@ -9,7 +9,7 @@ use mathlib.Core.Path.{_≡_}
 use mathlib.Core.List.{List}
 use lib.ListN.{length, getD}
 use Rattle.counting.specs.Sum.{sum, differ}
-use Rattle.packed_word.specs.Packed.{bitAt}
+use Rattle.packed_bits.specs.Packed.{bitAt}
 
 -- a list read by its places
 abbrev pub at : List ℕ → ℕ → ℕ

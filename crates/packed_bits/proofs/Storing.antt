@@ -13,11 +13,11 @@ use lib.Seq.{getD-set-same, getD-set-other}
 use Rattle.counting.specs.Sum.{sum}
 use Rattle.counting.specs.Lists.{listed, over}
 use Rattle.counting.proofs.Writing.{over-more}
-use Rattle.packed_word.specs.Packed.{bitAt, packedByte}
-use Rattle.packed_word.specs.Steps.{SetBit, FlipBit, Unpacked}
+use Rattle.packed_bits.specs.Packed.{bitAt, packedByte}
+use Rattle.packed_bits.specs.Steps.{SetBit, FlipBit, Unpacked}
 use Rattle.counting.specs.Digits.{digit}
-use Rattle.packed_word.proofs.Masks.{or-here, or-there, xor-here, xor-there}
-use Rattle.packed_word.proofs.Packing.{ended}
+use Rattle.packed_bits.proofs.Masks.{or-here, or-there, xor-here, xor-there}
+use Rattle.packed_bits.proofs.Packing.{ended}
 
 -- ---- one byte of a packed word
 

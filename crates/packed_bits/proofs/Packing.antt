@@ -15,9 +15,9 @@ use Rattle.counting.specs.Search.{any}
 use Rattle.counting.proofs.Sums.{sum-cong}
 use Rattle.counting.proofs.Searches.{any-step, any-none, any-at, any-clear}
 use Rattle.counting.proofs.Writing.{length-listed, getD-listed, listed-cong}
-use Rattle.packed_word.specs.Packed.{bitAt, bytesFor, packedByte, pack, spareSet, Bytes}
+use Rattle.packed_bits.specs.Packed.{bitAt, bytesFor, packedByte, pack, spareSet, Bytes}
 use Rattle.counting.specs.Digits.{digit}
-use Rattle.packed_word.proofs.Digits.{byte-small, digit-byte, byte-digit}
+use Rattle.packed_bits.proofs.Digits.{byte-small, digit-byte, byte-digit}
 
 pub bit-bit : (w : List ℕ) (j : ℕ) → bitAt w j < 2
 unfolding bitAt

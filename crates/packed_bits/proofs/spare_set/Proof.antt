@@ -1,13 +1,13 @@
--- `packed_word::spare_set` meets its contract. The loop's invariant: of the spare places, all but the last `left` were tested, and none of those is set. Assumes nothing.
+-- `packed_bits::spare_set` meets its contract. The loop's invariant: of the spare places, all but the last `left` were tested, and none of those is set. Assumes nothing.
 use mathlib.Core.Bool.{false}
 use mathlib.Core.Path.{_≡_, sym, _∙_}
 use Prim.Native.Nat.{ℕ, _+_, _*_, _-_, _≤_}
 use native.Mathlib.Omega.{arith}
 use lib.ListN.{length}
 use Rattle.counting.specs.Search.{any}
-use Rattle.packed_word.proofs.Packing.{spareOne, spare-start, spare-found, spare-more, spare-end}
-use Rattle.packed_word.proofs.spare_set.Statement.{statement}
-use Rattle.packed_word.proofs.spare_set.Tie as tie
+use Rattle.packed_bits.proofs.Packing.{spareOne, spare-start, spare-found, spare-more, spare-end}
+use Rattle.packed_bits.proofs.spare_set.Statement.{statement}
+use Rattle.packed_bits.proofs.spare_set.Tie as tie
 
 abbrev Inv-loop : tie.InvT-loop
 Inv-loop w n end left₀ left = (n + left ≤ end) × (any (spareOne n w) (end - left - n) ≡ false)

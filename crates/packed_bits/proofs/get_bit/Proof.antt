@@ -1,9 +1,9 @@
--- `packed_word::get_bit` meets its contract: the shifted byte's lowest digit is the bit. Assumes nothing.
+-- `packed_bits::get_bit` meets its contract: the shifted byte's lowest digit is the bit. Assumes nothing.
 use borrow.Author.Needs.{needs}
 use lib.Bits.{and-mask}
-use Rattle.packed_word.specs.Packed.{bitAt}
-use Rattle.packed_word.proofs.get_bit.Statement.{statement}
-use Rattle.packed_word.proofs.get_bit.Tie as tie
+use Rattle.packed_bits.specs.Packed.{bitAt}
+use Rattle.packed_bits.proofs.get_bit.Statement.{statement}
+use Rattle.packed_bits.proofs.get_bit.Tie as tie
 
 shared-slice-read-result : tie.Need-shared-slice-read-result
 shared-slice-read-result c = search needs

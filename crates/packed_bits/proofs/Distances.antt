@@ -9,8 +9,8 @@ use native.Mathlib.Omega.{arith}
 use lib.ListN.{length}
 use Rattle.counting.specs.Sum.{sum, differ}
 use Rattle.counting.proofs.Sums.{sum-cong, sum-le, sum-zero, sum-bound, sum-add, sum-append, sum-term, sum-pos, differ-eq, differ-ne, differ-zero, differ-sym, differ-triangle}
-use Rattle.packed_word.specs.Packed.{bitAt, bytesFor, spareSet, Bytes, distance}
-use Rattle.packed_word.proofs.Packing.{pack-cong, pack-bitAt}
+use Rattle.packed_bits.specs.Packed.{bitAt, bytesFor, spareSet, Bytes, distance}
+use Rattle.packed_bits.proofs.Packing.{pack-cong, pack-bitAt}
 
 pub differ-le : (a b : ℕ) → differ a b ≤ 1
 differ-le a b =

@@ -1,0 +1,3 @@
+-- What the contracts of `packed_bits` cite.
+pub mod Packed
+pub mod Steps
