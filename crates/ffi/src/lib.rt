@@ -19,7 +19,7 @@ ghost use Rattle.syndrome.specs.Failing.{failingOf};
 ghost use Rattle.majority_logic.specs.OneStep.{oneStepReport, oneStepVerdict, oneStepOf, oneStepWord};
 ghost use Rattle.one_step.specs.Stepped.{Lent};
 ghost use Rattle.session_asking.specs.Asked.{lent};
-ghost use Rattle.session_rounds.specs.Steps.{openOf, stepOf};
+ghost use Rattle.session_steps.specs.Steps.{openOf, stepOf};
 ghost use Rattle.codes.specs.Codes.{codeOf};
 ghost use Rattle.codes.specs.Records.{recordIn};
 ghost use Rattle.codes.specs.Settings.{choice};

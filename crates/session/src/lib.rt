@@ -1,5 +1,5 @@
 // Iterative voting in single rounds: a session, on the caller's own record.
-// Rests on `session_rounds` and `session_record`. Document 01: "Rounds one at a time".
+// Rests on `session_opening`, `session_rounds` and `session_record`. Document 01: "Rounds one at a time".
 use answers::Answer;
 use parity_check::Shape;
 use quantiser::Setting;
@@ -8,8 +8,8 @@ use session_record::Turn;
 ghost use Rattle.parity_check.specs.Shapes.{matrixOf};
 ghost use Rattle.quantiser.specs.Settings.{choiceOf};
 ghost use Rattle.session_asking.specs.Parts.{heldOf};
-ghost use Rattle.session_rounds.specs.Steps.{openOf, stepOf};
-ghost use Rattle.session_rounds.specs.Leaving.{Leaves};
+ghost use Rattle.session_steps.specs.Steps.{openOf, stepOf};
+ghost use Rattle.session_steps.specs.Leaving.{Leaves};
 
 // Opens a session on the caller's own record, which a refused opening leaves.
 pub fn open(
@@ -23,7 +23,7 @@ pub fn open(
 ) -> Answer
     ensures { λ r. ⌜ Leaves (openOf (matrixOf shape (now (list .entry))) (choiceOf setting) (now (samples .entry)) (heldOf (now (session .entry)) (now (word .entry)) (now (levels .entry)))) r (now (session .exit)) (now (word .exit)) (now (levels .exit)) ⌝ }
 {
-    let opened = session_rounds::open_value(*session, shape, list, setting, samples, word, levels);
+    let opened = session_opening::open_value(*session, shape, list, setting, samples, word, levels);
     *session = opened.session;
     opened.answer
 }

@@ -1,4 +1,4 @@
--- `session_asking::ask_open` meets its contract: the matrix is asked first, then what is lent with it. Assumes nothing.
+-- `session_opening::ask_open` meets its contract: the matrix is asked first, then what is lent with it. Assumes nothing.
 use mathlib.Core.Path.{sym, ap, _∙_}
 use borrow.Author.Needs.{needs}
 use Rattle.answers.specs.Answers.{verdictOf, numberOf, placeOf}
@@ -6,9 +6,9 @@ use Rattle.parity_check.specs.Code.{Matrix}
 use Rattle.parity_check.specs.Shapes.{matrixOf}
 use Rattle.parity_check.proofs.Reading.{accepted-is}
 use Rattle.quantiser.specs.Settings.{choiceOf}
 use Rattle.session_asking.proofs.Parts.{says-open-matrix, says-samples}
-use Rattle.session_asking.proofs.ask_open.Statement.{statement}
-use Rattle.session_asking.proofs.ask_open.Tie as tie
+use Rattle.session_opening.proofs.ask_open.Statement.{statement}
+use Rattle.session_opening.proofs.ask_open.Tie as tie
 
 abbrev lent-matrix : tie.Start → Matrix
 lent-matrix s = matrixOf (s .args .shape) (s .args .list .now)

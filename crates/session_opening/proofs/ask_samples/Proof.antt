@@ -1,4 +1,4 @@
--- `session_asking::ask_samples` meets its contract: its tests are refusals 6, 7 and 8, in this order. Assumes nothing.
+-- `session_opening::ask_samples` meets its contract: its tests are refusals 6, 7 and 8, in this order. Assumes nothing.
 use mathlib.Core.Path.{_≡_, sym, _∙_}
 use mathlib.Core.Bool.{true, false}
 use native.Mathlib.Omega.{arith}
@@ -7,10 +7,10 @@ use borrow.Author.Tests.{not-true, not-false}
 use lib.ListN.{length}
 use Rattle.quantiser.specs.Samples.{settingFits}
 use Rattle.quantiser.specs.Settings.{choiceOf}
 use Rattle.session_asking.specs.Parts.{wrongLengths}
 use Rattle.session_asking.proofs.Parts.{says-6, says-lengths, says-8, says-finite, samples-fit}
-use Rattle.session_asking.proofs.ask_samples.Statement.{statement}
-use Rattle.session_asking.proofs.ask_samples.Tie as tie
+use Rattle.session_opening.proofs.ask_samples.Statement.{statement}
+use Rattle.session_opening.proofs.ask_samples.Tie as tie
 
 -- ---- what the tests that are passed say
 

@@ -26,11 +26,11 @@ use Rattle.session_record.specs.Record.{recordFor, stateAfter, outcomeIn}
 use Rattle.session_record.specs.Sessions.{recordOf}
 use Rattle.session_asking.specs.Asked.{Held, openVerdict, stepVerdict}
 use Rattle.session_asking.specs.Reading.{Openable, Steppable}
-use Rattle.session_rounds.specs.Steps.{openOf, heldState, stepOf}
-use Rattle.session_rounds.specs.Leaving.{openedLeft, steppedState, steppedLeft, Leaves, Lent, Turned}
+use Rattle.session_steps.specs.Steps.{openOf, heldState, stepOf}
+use Rattle.session_steps.specs.Leaving.{openedLeft, steppedState, steppedLeft, Leaves, Lent, Turned}
 use Rattle.session_record.specs.declared.Session.{Session}
 use Rattle.session_asking.proofs.Asking.{finite-first}
-use Rattle.session_rounds.proofs.Leaving.{refused-open-keeps, refused-step-keeps, accepted-opens, accepted-steps, start-bits, round-bits}
+use Rattle.session_steps.proofs.Leaving.{refused-open-keeps, refused-step-keeps, accepted-opens, accepted-steps, start-bits, round-bits}
 
 -- ---- an accepted step
 

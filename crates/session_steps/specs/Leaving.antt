@@ -25,7 +25,7 @@ use Rattle.iterative.specs.Iterative.{startOf}
 use Rattle.session_record.specs.Record.{Record, empty}
 use Rattle.session_record.specs.Sessions.{recordOf}
 use Rattle.session_asking.specs.Asked.{Held}
-use Rattle.session_rounds.specs.Steps.{Left, saysAt, heldAt, heldState}
+use Rattle.session_steps.specs.Steps.{Left, saysAt, heldAt, heldState}
 use Rattle.session_record.specs.declared.Session.{Session}
 
 -- "Opening .. replaces any record": one that stands for any

@@ -11,8 +11,8 @@ use Rattle.iterative.specs.Rounds.{State, levelAfter, roundOf}
 use Rattle.iterative.specs.Iterative.{startOf}
 use Rattle.soft_levels.proofs.Levels.{above-bit}
 use Rattle.session_asking.specs.Asked.{Held, openVerdict, stepVerdict}
-use Rattle.session_rounds.specs.Steps.{openOf, stepOf}
-use Rattle.session_rounds.specs.Leaving.{openedLeft, steppedLeft}
+use Rattle.session_steps.specs.Steps.{openOf, stepOf}
+use Rattle.session_steps.specs.Leaving.{openedLeft, steppedLeft}
 
 -- a refused call leaves everything, and says its refusal
 pub refused-open-keeps : (H : Matrix) (S : Choice) (xs : List Float) (h : Held) (k x : ℕ) → openVerdict H S xs h ≡ refused k x

@@ -1,4 +1,4 @@
--- `session_rounds::open_value` meets its contract: a refused opening hands everything back. Assumes nothing.
+-- `session_opening::open_value` meets its contract: a refused opening hands everything back. Assumes nothing.
 use mathlib.Core.Path.{_≡_, sym, ap, _∙_}
 use borrow.Author.Needs.{needs}
 use Rattle.answers.specs.Answers.{verdictOf, numberOf, placeOf}
@@ -8,11 +8,11 @@ use Rattle.quantiser.specs.Settings.{choiceOf}
 use Rattle.session_record.specs.Sessions.{recordOf}
 use Rattle.session_asking.specs.Asked.{Held, lent, openVerdict}
 use Rattle.session_asking.specs.Parts.{heldOf}
-use Rattle.session_rounds.specs.Leaving.{blank}
+use Rattle.session_steps.specs.Leaving.{blank}
 use Rattle.session_asking.proofs.Asking.{accepted-open}
-use Rattle.session_rounds.proofs.Answering.{leaves-opened, leaves-unopened}
-use Rattle.session_rounds.proofs.open_value.Statement.{statement}
-use Rattle.session_rounds.proofs.open_value.Tie as tie
+use Rattle.session_steps.proofs.Answering.{leaves-opened, leaves-unopened}
+use Rattle.session_opening.proofs.open_value.Statement.{statement}
+use Rattle.session_opening.proofs.open_value.Tie as tie
 
 abbrev lent-matrix : tie.Start → Matrix
 lent-matrix s = matrixOf (s .args .shape) (s .args .list .now)

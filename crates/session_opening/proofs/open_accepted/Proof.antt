@@ -1,14 +1,14 @@
--- `session_rounds::open_accepted` meets its contract: the levels and the hard bits, and the counts on them. Assumes nothing.
+-- `session_opening::open_accepted` meets its contract: the levels and the hard bits, and the counts on them. Assumes nothing.
 use borrow.Author.Needs.{needs}
 use Rattle.packed_word.specs.Steps.{at}
 use Rattle.parity_check.specs.Code.{Matrix, Word}
 use Rattle.parity_check.specs.Shapes.{matrixOf}
 use Rattle.quantiser.specs.Settings.{choiceOf}
 use Rattle.session_asking.specs.Asked.{Held, lent}
-use Rattle.session_rounds.specs.Leaving.{blank}
-use Rattle.session_rounds.proofs.Answering.{open-fillable, cells-word, open-leaves}
-use Rattle.session_rounds.proofs.open_accepted.Statement.{statement}
-use Rattle.session_rounds.proofs.open_accepted.Tie as tie
+use Rattle.session_steps.specs.Leaving.{blank}
+use Rattle.session_steps.proofs.Answering.{open-fillable, cells-word, open-leaves}
+use Rattle.session_opening.proofs.open_accepted.Statement.{statement}
+use Rattle.session_opening.proofs.open_accepted.Tie as tie
 
 abbrev lent-matrix : tie.Start → Matrix
 lent-matrix s = matrixOf (s .args .shape) (s .args .list .now)
