@@ -144,7 +144,7 @@ pub extern "C" fn mlgd_open(
     let shape = Shape { n, m, rho, gamma };
     let setting = setting_of(bits, limit, kind, step);
     let s = session_in(cells);
-    let turn = session::open_copy(s, shape, list, setting, samples, word, levels);
+    let turn = record_open::open_copy(s, shape, list, setting, samples, word, levels);
     turn_code(turn, cells)
 }
 
@@ -168,7 +168,7 @@ pub extern "C" fn mlgd_step(
     }
     let shape = Shape { n, m, rho, gamma };
     let s = session_in(cells);
-    let turn = session::step_copy(s, shape, list, received, word, levels);
+    let turn = record_step::step_copy(s, shape, list, received, word, levels);
     turn_code(turn, cells)
 }
 

@@ -1,4 +1,4 @@
--- `session::open` meets its contract: a walk of its MIR. The borrow of the `Session` is opened and the whole record is copied out; what the other
+-- `record_open::open` meets its contract: a walk of its MIR. The borrow of the `Session` is opened and the whole record is copied out; what the other
 -- parameters own goes to `open_value` as it came, at its own lifetimes, shares and ghost names; of the `Turn` that comes back `session` is stored behind the borrow, which is closed at it, and `answer` is the result.
 -- All that the proof knows of `open_value` is that it meets its contract. Assumes nothing.
 use mathlib.Core.Path.{_≡_, refl, ap}
@@ -68,10 +68,10 @@ use Rattle.session_opening.proofs.open_value as callee
 use Rattle.session_opening.proofs.open_value.Symbol as callee-def
 use Rattle.session_opening.proofs.open_value.Symbol.{name as #callee}
 use Rattle.session_opening.proofs.open_value.Met as callee-thm
-use Rattle.session.proofs.open.Key.{name as #own}
-use Rattle.session.proofs.open as f
-use Rattle.session.proofs.open.Statement as stated
-use Rattle.session.proofs.open.Code as code
+use Rattle.record_open.proofs.open.Key.{name as #own}
+use Rattle.record_open.proofs.open as f
+use Rattle.record_open.proofs.open.Statement as stated
+use Rattle.record_open.proofs.open.Code as code
 
 abbrev stayed : Stays (f.ended .signature .params) (f.ended .kept)
 stayed = (stay-ref (0 ∷ []) tt (plain (λ _. T.the-row)), (stay-dropped (plain (λ _. Shape-type.the-row)) yes, (stay-dropped (shrSliceOf (1 ∷ []) tt (plain (λ _. u16))) yes, (stay-dropped (plain (λ _. Setting-type.the-row)) yes, (stay-dropped (shrSliceOf (2 ∷ []) tt (plain (λ _. f32))) yes, (gave-slice (3 ∷ []) tt (plain (λ _. u8)), (gave-slice (4 ∷ []) tt (plain (λ _. i8)), tt)))))))

@@ -1,4 +1,4 @@
--- `session::open_copy` meets its contract: a walk of its MIR. A local Session is lent to `open` for a lifetime that is made for the call, with the other
+-- `record_open::open_copy` meets its contract: a walk of its MIR. A local Session is lent to `open` for a lifetime that is made for the call, with the other
 -- parameters as they came; the lifetime is ended, and the local is back at the Session that `open` says. All that the proof knows of `open` is that it meets its contract. Assumes nothing.
 use mathlib.Core.Path.{_≡_, refl, ap, subst}
 use Prim.Native.Nat.{ℕ}
@@ -64,14 +64,14 @@ use Rattle.matrix.proofs.Shape.Laws as Shape-laws
 use Rattle.quantiser.specs.declared.Setting.{Setting}
 use Rattle.quantiser.proofs.Setting as Setting-type
 use Rattle.quantiser.proofs.Setting.Laws as Setting-laws
-use Rattle.session.proofs.open as callee
-use Rattle.session.proofs.open.Symbol as callee-def
-use Rattle.session.proofs.open.Symbol.{name as #callee}
-use Rattle.session.proofs.open.Met as callee-thm
-use Rattle.session.proofs.open_copy.Key.{name as #own}
-use Rattle.session.proofs.open_copy as f
-use Rattle.session.proofs.open_copy.Statement as stated
-use Rattle.session.proofs.open_copy.Code as code
+use Rattle.record_open.proofs.open as callee
+use Rattle.record_open.proofs.open.Symbol as callee-def
+use Rattle.record_open.proofs.open.Symbol.{name as #callee}
+use Rattle.record_open.proofs.open.Met as callee-thm
+use Rattle.record_open.proofs.open_copy.Key.{name as #own}
+use Rattle.record_open.proofs.open_copy as f
+use Rattle.record_open.proofs.open_copy.Statement as stated
+use Rattle.record_open.proofs.open_copy.Code as code
 
 abbrev stayed : Stays (f.ended .signature .params) (f.ended .kept)
 stayed = (stay-dropped (plain (λ _. T.the-row)) yes, (stay-dropped (plain (λ _. Shape-type.the-row)) yes, (stay-dropped (shrSliceOf (0 ∷ []) tt (plain (λ _. u16))) yes, (stay-dropped (plain (λ _. Setting-type.the-row)) yes, (stay-dropped (shrSliceOf (1 ∷ []) tt (plain (λ _. f32))) yes, (gave-slice (2 ∷ []) tt (plain (λ _. u8)), (gave-slice (3 ∷ []) tt (plain (λ _. i8)), tt)))))))
@@ -217,4 +217,4 @@ open-copy-spec 𝓤 H 𝓜 𝓖 𝓡 =
     entered 𝓤 H (tripleOf 𝓤 H (𝓖 .A) f.signature (f.spec 𝓤 H (𝓖 .A) (𝓜 .mem) (𝓡 .run)))
     (tables 𝓤 H 𝓜 𝓡 code.env .C) (tables 𝓤 H 𝓜 𝓡 code.env .Λ) #own code.function (code.unfolded 𝓤 H 𝓜 𝓡)
     (f-meets 𝓤 H (𝓖 .A) (givenOf 𝓤 H 𝓜 𝓖) (𝓜 .mem) (𝓡 .run) (tablesOf 𝓤 H 𝓜 (tables 𝓤 H 𝓜 𝓡 code.env))
-    (cited 𝓤 H (Callee 𝓤 H (𝓖 .A) (𝓜 .mem) (𝓡 .run)) 𝓜 𝓡 code.env #callee callee-def.routine code.calls-session·open (callee-thm.met 𝓤 H 𝓜 𝓖 𝓡)))
+    (cited 𝓤 H (Callee 𝓤 H (𝓖 .A) (𝓜 .mem) (𝓡 .run)) 𝓜 𝓡 code.env #callee callee-def.routine code.calls-record-open·open (callee-thm.met 𝓤 H 𝓜 𝓖 𝓡)))

@@ -1,4 +1,4 @@
--- `session::step_copy` meets its contract: a walk of its MIR. A local Session is lent to `step` for a lifetime that is made for the call, with the other
+-- `record_step::step_copy` meets its contract: a walk of its MIR. A local Session is lent to `step` for a lifetime that is made for the call, with the other
 -- parameters as they came; the lifetime is ended, and the local is back at the Session that `step` says. All that the proof knows of `step` is that it meets its contract. Assumes nothing.
 use mathlib.Core.Path.{_≡_, refl, ap, subst}
 use Prim.Native.Nat.{ℕ}
@@ -59,14 +59,14 @@ use Rattle.answers.proofs.Answer.Laws as Ans′
 use Rattle.matrix.specs.declared.Shape.{Shape}
 use Rattle.matrix.proofs.Shape as Shape-type
 use Rattle.matrix.proofs.Shape.Laws as Shape-laws
-use Rattle.session.proofs.step as callee
-use Rattle.session.proofs.step.Symbol as callee-def
-use Rattle.session.proofs.step.Symbol.{name as #callee}
-use Rattle.session.proofs.step.Met as callee-thm
-use Rattle.session.proofs.step_copy.Key.{name as #own}
-use Rattle.session.proofs.step_copy as f
-use Rattle.session.proofs.step_copy.Statement as stated
-use Rattle.session.proofs.step_copy.Code as code
+use Rattle.record_step.proofs.step as callee
+use Rattle.record_step.proofs.step.Symbol as callee-def
+use Rattle.record_step.proofs.step.Symbol.{name as #callee}
+use Rattle.record_step.proofs.step.Met as callee-thm
+use Rattle.record_step.proofs.step_copy.Key.{name as #own}
+use Rattle.record_step.proofs.step_copy as f
+use Rattle.record_step.proofs.step_copy.Statement as stated
+use Rattle.record_step.proofs.step_copy.Code as code
 
 abbrev stayed : Stays (f.ended .signature .params) (f.ended .kept)
 stayed = (stay-dropped (plain (λ _. T.the-row)) yes, (stay-dropped (plain (λ _. Shape-type.the-row)) yes, (stay-dropped (shrSliceOf (0 ∷ []) tt (plain (λ _. u16))) yes, (stay-dropped (shrSliceOf (1 ∷ []) tt (plain (λ _. u8))) yes, (gave-slice (2 ∷ []) tt (plain (λ _. u8)), (gave-slice (3 ∷ []) tt (plain (λ _. i8)), tt))))))
@@ -208,4 +208,4 @@ step-copy-spec 𝓤 H 𝓜 𝓖 𝓡 =
     entered 𝓤 H (tripleOf 𝓤 H (𝓖 .A) f.signature (f.spec 𝓤 H (𝓖 .A) (𝓜 .mem) (𝓡 .run)))
     (tables 𝓤 H 𝓜 𝓡 code.env .C) (tables 𝓤 H 𝓜 𝓡 code.env .Λ) #own code.function (code.unfolded 𝓤 H 𝓜 𝓡)
     (f-meets 𝓤 H (𝓖 .A) (givenOf 𝓤 H 𝓜 𝓖) (𝓜 .mem) (𝓡 .run) (tablesOf 𝓤 H 𝓜 (tables 𝓤 H 𝓜 𝓡 code.env))
-    (cited 𝓤 H (Callee 𝓤 H (𝓖 .A) (𝓜 .mem) (𝓡 .run)) 𝓜 𝓡 code.env #callee callee-def.routine code.calls-session·step (callee-thm.met 𝓤 H 𝓜 𝓖 𝓡)))
+    (cited 𝓤 H (Callee 𝓤 H (𝓖 .A) (𝓜 .mem) (𝓡 .run)) 𝓜 𝓡 code.env #callee callee-def.routine code.calls-record-step·step (callee-thm.met 𝓤 H 𝓜 𝓖 𝓡)))
