@@ -18,7 +18,7 @@ use Rattle.parity_check.specs.Code.{Matrix}
 use Rattle.quantiser.specs.Samples.{Choice, quantiseVerdict, levelsOf, hardWord}
 use Rattle.iterative.specs.Iterative.{iterativeVerdict, iterativeOf, iterativeWord, iterativeLevels}
 use Rattle.session_asking.specs.Asked.{Held}
-use Rattle.session_rounds.specs.Steps.{Left}
+use Rattle.session_steps.specs.Steps.{Left}
 use Rattle.codes.specs.Codes.{codeOf}
 use Rattle.codes.specs.Records.{cellsOf, writtenBy}
 

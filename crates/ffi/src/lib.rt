@@ -19,7 +19,7 @@ ghost use Rattle.syndrome.specs.Failing.{failingOf};
 ghost use Rattle.majority_logic.specs.OneStep.{oneStepReport, oneStepVerdict, oneStepOf, oneStepWord};
 ghost use Rattle.one_step.specs.Stepped.{Lent};
 ghost use Rattle.session_asking.specs.Asked.{lent};
-ghost use Rattle.session_rounds.specs.Steps.{openOf, stepOf};
+ghost use Rattle.session_steps.specs.Steps.{openOf, stepOf};
 ghost use Rattle.codes.specs.Codes.{codeOf};
 ghost use Rattle.codes.specs.Records.{recordIn};
 ghost use Rattle.codes.specs.Settings.{choice};
@@ -144,7 +144,7 @@ pub extern "C" fn mlgd_open(
     let shape = Shape { n, m, rho, gamma };
     let setting = setting_of(bits, limit, kind, step);
     let s = session_in(cells);
-    let turn = session::open_copy(s, shape, list, setting, samples, word, levels);
+    let turn = record_open::open_copy(s, shape, list, setting, samples, word, levels);
     turn_code(turn, cells)
 }
 
@@ -168,7 +168,7 @@ pub extern "C" fn mlgd_step(
     }
     let shape = Shape { n, m, rho, gamma };
     let s = session_in(cells);
-    let turn = session::step_copy(s, shape, list, received, word, levels);
+    let turn = record_step::step_copy(s, shape, list, received, word, levels);
     turn_code(turn, cells)
 }
 

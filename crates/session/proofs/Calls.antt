@@ -18,11 +18,11 @@ use Rattle.iterative.specs.Iterative.{startOf}
 use Rattle.session_record.specs.Record.{Record, working, decoded, failed, stateAfter}
 use Rattle.session_asking.specs.Asked.{Held, lent, openVerdict, stepVerdict}
 use Rattle.session_asking.specs.Reading.{Steppable}
-use Rattle.session_rounds.specs.Steps.{heldAt, openOf, heldState, stepOf}
-use Rattle.session_rounds.specs.Leaving.{openedLeft, steppedState, steppedLeft}
+use Rattle.session_steps.specs.Steps.{heldAt, openOf, heldState, stepOf}
+use Rattle.session_steps.specs.Leaving.{openedLeft, steppedState, steppedLeft}
 use Rattle.session.specs.Stepping.{Means, Ran, opened, stepped, step-refused, open-refused, Within}
 use Rattle.session_asking.proofs.Asking.{accepted-open, accepted-step}
-use Rattle.session_rounds.proofs.Leaving.{refused-open-keeps, refused-step-keeps, accepted-opens, accepted-steps, start-bits, round-bits}
+use Rattle.session_steps.proofs.Leaving.{refused-open-keeps, refused-step-keeps, accepted-opens, accepted-steps, start-bits, round-bits}
 use Rattle.session.proofs.Buffers.{bits-back}
 
 -- ---- what the state says

@@ -26,11 +26,11 @@ use Rattle.iterative.proofs.Ends.{end-is, levels-bound, round-alike, failing-al
 use Rattle.session_record.specs.Record.{working, stateAfter, outcomeIn}
 use Rattle.session_asking.specs.Asked.{Held, openVerdict}
 use Rattle.session_asking.specs.Reading.{Openable, Steppable}
-use Rattle.session_rounds.specs.Steps.{Left, saysAt, heldAt, openOf, heldState, stepOf}
-use Rattle.session_rounds.specs.Leaving.{steppedState}
+use Rattle.session_steps.specs.Steps.{Left, saysAt, heldAt, openOf, heldState, stepOf}
+use Rattle.session_steps.specs.Leaving.{steppedState}
 use Rattle.session.specs.Stepping.{stepsOf, EndsAlike, SteppingIsWhole}
 use Rattle.session_asking.proofs.Asking.{accepted-open, step-accepted}
-use Rattle.session_rounds.proofs.Leaving.{accepted-opens, accepted-steps, start-bits, round-bits}
+use Rattle.session_steps.proofs.Leaving.{accepted-opens, accepted-steps, start-bits, round-bits}
 use Rattle.session.proofs.Buffers.{bits-back, spare-back, levels-back}
 use Rattle.session.proofs.Calls.{after-working}
 

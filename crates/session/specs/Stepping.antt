@@ -18,7 +18,7 @@ use Rattle.quantiser.specs.Samples.{Choice, hardWord}
 use Rattle.iterative.specs.Iterative.{iterativeOf, iterativeWord, iterativeLevels}
 use Rattle.session_record.specs.Record.{Record, working, decoded, failed}
 use Rattle.session_asking.specs.Asked.{Held, lent, openVerdict, stepVerdict}
-use Rattle.session_rounds.specs.Steps.{Left, openOf, stepOf}
+use Rattle.session_steps.specs.Steps.{Left, openOf, stepOf}
 
 -- t steps after a call, each lent the received word w and what the last call left
 unfoldable pub stepsOf : Matrix → List ℕ → ℕ → Left → Left

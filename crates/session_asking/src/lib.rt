@@ -1,9 +1,8 @@
-// What opening a session and a step of it ask, in their order.
+// What opening a session and a step of it ask (specs/), and the questions of a step in their order.
 // Rests on `session_record`, `iterative`, `quantiser`, `packed_word` and `parity_check`. Document 01: "Refused for the session"; refusals 1 to 9.
 use answers::Checked;
 use answers::Refusal;
 use parity_check::Shape;
-use quantiser::Setting;
 use session_record::Session;
 use session_record::State;
 ghost use mathlib.Core.Path.{_≡_};
@@ -17,12 +16,10 @@ ghost use Rattle.answers.specs.Answers.{numberOf, placeOf, verdictOf};
 ghost use Rattle.packed_word.specs.Packed.{bytesFor};
 ghost use Rattle.parity_check.specs.Reading.{Accepted};
 ghost use Rattle.parity_check.specs.Shapes.{matrixOf};
-ghost use Rattle.quantiser.specs.Settings.{choiceOf};
-ghost use Rattle.iterative.specs.Iterative.{iterativeVerdict};
 ghost use Rattle.session_record.specs.Sessions.{recordOf};
 ghost use Rattle.session_asking.specs.Asked.{unusable, ended, otherSizes, stepVerdict};
 ghost use Rattle.session_asking.specs.Reading.{Usable};
-ghost use Rattle.session_asking.specs.Parts.{heldOf, outOfRange, wrongLengths, far, samplesVerdict, beyondIn, knownVerdict, lentVerdict};
+ghost use Rattle.session_asking.specs.Parts.{heldOf, outOfRange, wrongLengths, far, beyondIn, knownVerdict, lentVerdict};
 
 // Whether b, the round limit or k of a working record is out of range.
 fn out_of_range(bits: u16, limit: u16, k: u16) -> bool
@@ -114,7 +111,8 @@ fn any_far(levels: &[i8], n: usize, middle: u8) -> bool
 }
 
 // Refusal 7: what is lent has not the length wanted, or a written buffer is too short for n bits.
-fn wrong_lengths(lent: usize, wanted: usize, n: usize, bytes: usize, room: usize) -> bool
+// Only this repository's crates call it, after the matrix is accepted.
+pub fn wrong_lengths(lent: usize, wanted: usize, n: usize, bytes: usize, room: usize) -> bool
     requires { ⌜ n ≤ 1023 ⌝ }
     ensures { λ r. ⌜ r ≡ wrongLengths lent wanted n bytes room ⌝ }
 {
@@ -207,43 +205,6 @@ pub fn ask_step(
     let known = ask_known(session, shape, list);
     match known {
         Checked::Accepted => ask_lent(session, shape, list, received, word, levels),
-        Checked::Refused(f) => Checked::Refused(f),
-    }
-}
-
-// What opening asks once its matrix is accepted: 6, 7, 8.
-fn ask_samples(n: usize, setting: Setting, samples: &[f32], bytes: usize, room: usize) -> Checked
-    requires { ⌜ n ≤ 1023 ⌝ }
-    ensures { λ r. ⌜ verdictOf r ≡ samplesVerdict n (choiceOf setting) (now (samples .entry)) bytes room ⌝ }
-{
-    if !quantiser::setting_fits(setting) {
-        return Checked::Refused(Refusal::Setting);
-    }
-    if wrong_lengths(samples.len(), n, n, bytes, room) {
-        return Checked::Refused(Refusal::Buffer);
-    }
-    let found = quantiser::first_not_finite(samples);
-    if found < samples.len() {
-        return Checked::Refused(Refusal::Sample(found as u16));
-    }
-    Checked::Accepted
-}
-
-// What opening asks, in its order: 1 to 8.
-pub fn ask_open(
-    shape: Shape,
-    list: &[u16],
-    setting: Setting,
-    samples: &[f32],
-    bytes: usize,
-    room: usize,
-) -> Checked
-    ensures { λ r. ⌜ verdictOf r ≡ iterativeVerdict (matrixOf shape (now (list .entry))) (choiceOf setting) (now (samples .entry)) bytes room ⌝ }
-{
-    let n = shape.n as usize;
-    let asked = parity_check::check(shape, list);
-    match asked {
-        Checked::Accepted => ask_samples(n, setting, samples, bytes, room),
         Checked::Refused(f) => Checked::Refused(f),
     }
 }

@@ -1,3 +1,1 @@
 pub mod Rounding
-pub mod Leaving
-pub mod Answering

@@ -19,7 +19,7 @@ use Rattle.iterative.specs.Stages.{Alike}
 use Rattle.iterative.specs.Runs.{stateOf, Holds}
 use Rattle.iterative.proofs.Holding.{holds-word, round-holds}
 use Rattle.iterative.proofs.Running.{holds-alike}
-use Rattle.session_rounds.specs.Leaving.{lentState, Lent, Turned}
+use Rattle.session_steps.specs.Leaving.{lentState, Lent, Turned}
 
 module _ (H : Matrix) (L : ℕ) (word : List ℕ) (levels : List ℤ) (p : Lent H L word levels) (zeros bits kept votes : List ℕ) (f : ℕ)
     (u : Unpacked (H .n) word zeros bits) (b : Biased (H .n) L levels kept) (t : Tallied H (at bits) votes f) where

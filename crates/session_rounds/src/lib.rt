@@ -1,17 +1,14 @@
-// Opening a session and one step of it, by value: the record in and out.
-// Rests on `session_asking`, `session_record`, `iterative`, `soft_levels`, `quantiser`, `votes` and `syndrome`. Document 01: "Rounds one at a time".
+// One step of a session, by value: the record in and out.
+// Rests on `session_steps`, `session_asking`, `session_record`, `iterative`, `soft_levels`, `packed_word`, `votes` and `syndrome`. Document 01: "Rounds one at a time".
 use answers::Checked;
 use parity_check::Shape;
-use quantiser::Setting;
 use session_record::Session;
 use session_record::Turn;
 ghost use Rattle.parity_check.specs.Shapes.{matrixOf};
-ghost use Rattle.quantiser.specs.Settings.{choiceOf};
-ghost use Rattle.session_asking.specs.Asked.{lent};
-ghost use Rattle.session_asking.specs.Reading.{Openable, Steppable};
+ghost use Rattle.session_asking.specs.Reading.{Steppable};
 ghost use Rattle.session_asking.specs.Parts.{heldOf};
-ghost use Rattle.session_rounds.specs.Steps.{openOf, stepOf};
-ghost use Rattle.session_rounds.specs.Leaving.{blank, openedLeft, steppedLeft, Leaves, Lent, Turned};
+ghost use Rattle.session_steps.specs.Steps.{stepOf};
+ghost use Rattle.session_steps.specs.Leaving.{steppedLeft, Leaves, Lent, Turned};
 
 // Steps 4 to 6 on the word and the levels lent, and how many checks of the new word fail.
 fn round_on(shape: Shape, list: &[u16], middle: u8, word: &mut [u8], levels: &mut [i8]) -> u16
@@ -70,47 +67,6 @@ pub fn step_value(
     let asked = session_asking::ask_step(session, shape, list, received, word, levels);
     match asked {
         Checked::Accepted => step_accepted(session, shape, list, received, word, levels),
-        Checked::Refused(f) => session_record::refuse(session, f),
-    }
-}
-
-// An opening that no refusal applies to: levels and hard bits, and what is counted on them.
-fn open_accepted(
-    shape: Shape,
-    list: &[u16],
-    setting: Setting,
-    samples: &[f32],
-    word: &mut [u8],
-    levels: &mut [i8],
-) -> Turn
-    requires { ⌜ Openable (matrixOf shape (now list)) (choiceOf setting) (now samples) (lent blank (now word) (now levels)) ⌝ }
-    ensures { λ r. ⌜ Leaves (openedLeft (matrixOf shape (now (list .entry))) (choiceOf setting) (now (samples .entry)) (lent blank (now (word .entry)) (now (levels .entry)))) (r .answer) (r .session) (now (word .exit)) (now (levels .exit)) ⌝ }
-{
-    let n = shape.n as usize;
-    let bits = setting.bits;
-    let limit = setting.limit;
-    let mut cells = [0u8; 1023];
-    quantiser::fill(setting, samples, levels, &mut cells);
-    packed_word::pack_into(&cells, n, word);
-    let failing = syndrome::failing_count(shape, list, &cells);
-    session_record::after_round(shape, bits, limit, 0, failing, 0)
-}
-
-// Opens a session, by value: the record in and out. A refused opening hands the record back.
-pub fn open_value(
-    session: Session,
-    shape: Shape,
-    list: &[u16],
-    setting: Setting,
-    samples: &[f32],
-    word: &mut [u8],
-    levels: &mut [i8],
-) -> Turn
-    ensures { λ r. ⌜ Leaves (openOf (matrixOf shape (now (list .entry))) (choiceOf setting) (now (samples .entry)) (heldOf session (now (word .entry)) (now (levels .entry)))) (r .answer) (r .session) (now (word .exit)) (now (levels .exit)) ⌝ }
-{
-    let asked = session_asking::ask_open(shape, list, setting, samples, word.len(), levels.len());
-    match asked {
-        Checked::Accepted => open_accepted(shape, list, setting, samples, word, levels),
         Checked::Refused(f) => session_record::refuse(session, f),
     }
 }

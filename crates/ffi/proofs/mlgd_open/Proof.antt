@@ -6,9 +6,9 @@ use lib.IntN.{ℤ}
 use Rattle.parity_check.specs.Code.{Matrix, matrix}
 use Rattle.session_record.specs.Record.{Record}
 use Rattle.session_record.specs.Sessions.{recordOf}
-use Rattle.session_rounds.specs.Leaving.{Leaves}
+use Rattle.session_steps.specs.Leaving.{Leaves}
 use Rattle.session_asking.specs.Asked.{Held}
-use Rattle.session_rounds.specs.Steps.{Left, openOf}
+use Rattle.session_steps.specs.Steps.{Left, openOf}
 use Rattle.session_asking.specs.Asked.{lent}
 use Rattle.codes.specs.Codes.{Small}
 use Rattle.codes.specs.Records.{recordIn}

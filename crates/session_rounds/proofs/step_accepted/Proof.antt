@@ -10,7 +10,7 @@ use Rattle.parity_check.specs.Code.{Matrix}
 use Rattle.parity_check.specs.Shapes.{matrixOf}
 use Rattle.session_asking.specs.Asked.{Held}
 use Rattle.session_asking.specs.Parts.{heldOf}
-use Rattle.session_rounds.proofs.Answering.{step-lent, front-long, step-leaves}
+use Rattle.session_steps.proofs.Answering.{step-lent, front-long, step-leaves}
 use Rattle.session_rounds.proofs.step_accepted.Statement.{statement}
 use Rattle.session_rounds.proofs.step_accepted.Tie as tie
 

@@ -10,7 +10,7 @@ use Rattle.session_record.specs.Sessions.{recordOf}
 use Rattle.session_asking.specs.Asked.{Held}
 use Rattle.session_asking.specs.Parts.{heldOf}
 use Rattle.session_asking.proofs.Asking.{accepted-step}
-use Rattle.session_rounds.proofs.Answering.{leaves-stepped, leaves-refused}
+use Rattle.session_steps.proofs.Answering.{leaves-stepped, leaves-refused}
 use Rattle.session_rounds.proofs.step_value.Statement.{statement}
 use Rattle.session_rounds.proofs.step_value.Tie as tie
 

@@ -1,0 +1,98 @@
+// Opening a session, by value: what it asks, and the record in and out.
+// Rests on `session_steps`, `session_asking`, `session_record`, `quantiser`, `packed_word`, `syndrome` and `parity_check`. Document 01: "Rounds one at a time"; refusals 1 to 8.
+use answers::Checked;
+use answers::Refusal;
+use parity_check::Shape;
+use quantiser::Setting;
+use session_asking::wrong_lengths;
+use session_record::Session;
+use session_record::Turn;
+ghost use mathlib.Core.Path.{_≡_};
+ghost use Prim.Native.Nat.{_≤_};
+ghost use Rattle.answers.specs.Answers.{verdictOf};
+ghost use Rattle.parity_check.specs.Shapes.{matrixOf};
+ghost use Rattle.quantiser.specs.Settings.{choiceOf};
+ghost use Rattle.iterative.specs.Iterative.{iterativeVerdict};
+ghost use Rattle.session_asking.specs.Asked.{lent};
+ghost use Rattle.session_asking.specs.Reading.{Openable};
+ghost use Rattle.session_asking.specs.Parts.{heldOf, samplesVerdict};
+ghost use Rattle.session_steps.specs.Steps.{openOf};
+ghost use Rattle.session_steps.specs.Leaving.{blank, openedLeft, Leaves};
+
+// What opening asks once its matrix is accepted: 6, 7, 8.
+fn ask_samples(n: usize, setting: Setting, samples: &[f32], bytes: usize, room: usize) -> Checked
+    requires { ⌜ n ≤ 1023 ⌝ }
+    ensures { λ r. ⌜ verdictOf r ≡ samplesVerdict n (choiceOf setting) (now (samples .entry)) bytes room ⌝ }
+{
+    if !quantiser::setting_fits(setting) {
+        return Checked::Refused(Refusal::Setting);
+    }
+    if wrong_lengths(samples.len(), n, n, bytes, room) {
+        return Checked::Refused(Refusal::Buffer);
+    }
+    let found = quantiser::first_not_finite(samples);
+    if found < samples.len() {
+        return Checked::Refused(Refusal::Sample(found as u16));
+    }
+    Checked::Accepted
+}
+
+// What opening asks, in its order: 1 to 8.
+fn ask_open(
+    shape: Shape,
+    list: &[u16],
+    setting: Setting,
+    samples: &[f32],
+    bytes: usize,
+    room: usize,
+) -> Checked
+    ensures { λ r. ⌜ verdictOf r ≡ iterativeVerdict (matrixOf shape (now (list .entry))) (choiceOf setting) (now (samples .entry)) bytes room ⌝ }
+{
+    let n = shape.n as usize;
+    let asked = parity_check::check(shape, list);
+    match asked {
+        Checked::Accepted => ask_samples(n, setting, samples, bytes, room),
+        Checked::Refused(f) => Checked::Refused(f),
+    }
+}
+
+// An opening that no refusal applies to: levels and hard bits, and what is counted on them.
+fn open_accepted(
+    shape: Shape,
+    list: &[u16],
+    setting: Setting,
+    samples: &[f32],
+    word: &mut [u8],
+    levels: &mut [i8],
+) -> Turn
+    requires { ⌜ Openable (matrixOf shape (now list)) (choiceOf setting) (now samples) (lent blank (now word) (now levels)) ⌝ }
+    ensures { λ r. ⌜ Leaves (openedLeft (matrixOf shape (now (list .entry))) (choiceOf setting) (now (samples .entry)) (lent blank (now (word .entry)) (now (levels .entry)))) (r .answer) (r .session) (now (word .exit)) (now (levels .exit)) ⌝ }
+{
+    let n = shape.n as usize;
+    let bits = setting.bits;
+    let limit = setting.limit;
+    let mut cells = [0u8; 1023];
+    quantiser::fill(setting, samples, levels, &mut cells);
+    packed_word::pack_into(&cells, n, word);
+    let failing = syndrome::failing_count(shape, list, &cells);
+    session_record::after_round(shape, bits, limit, 0, failing, 0)
+}
+
+// Opens a session, by value: the record in and out. A refused opening hands the record back.
+pub fn open_value(
+    session: Session,
+    shape: Shape,
+    list: &[u16],
+    setting: Setting,
+    samples: &[f32],
+    word: &mut [u8],
+    levels: &mut [i8],
+) -> Turn
+    ensures { λ r. ⌜ Leaves (openOf (matrixOf shape (now (list .entry))) (choiceOf setting) (now (samples .entry)) (heldOf session (now (word .entry)) (now (levels .entry)))) (r .answer) (r .session) (now (word .exit)) (now (levels .exit)) ⌝ }
+{
+    let asked = ask_open(shape, list, setting, samples, word.len(), levels.len());
+    match asked {
+        Checked::Accepted => open_accepted(shape, list, setting, samples, word, levels),
+        Checked::Refused(f) => session_record::refuse(session, f),
+    }
+}

@@ -1,0 +1,154 @@
+-- What opening and a step leave: the record, the word and the counts of an accepted one, and the whole call. Assumes nothing.
+use mathlib.Core.Path.{_≡_, refl, sym, ap, ap₂, _∙_}
+use mathlib.Core.List.{List}
+use Prim.Native.Nat.{ℕ, _+_, _*_, _-_, _<_}
+use native.Mathlib.Numerals.{add-one}
+use native.Mathlib.Omega.{arith}
+use lib.IntN.{ℤ}
+use lib.Ieee.{Float, nan}
+use lib.ListN.{length, getD, take}
+use Rattle.counting.specs.Lists.{listed, over}
+use Rattle.counting.proofs.Writing.{take-over}
+use Rattle.answers.specs.Paper.{accepted, refused, refusal, report}
+use Rattle.answers.specs.Answers.{saidOf}
+use Rattle.answers.specs.declared.Answer.{Answer}
+use Rattle.packed_word.specs.Packed.{bitAt, bytesFor, pack, distance}
+use Rattle.packed_word.specs.Steps.{at}
+use Rattle.packed_word.proofs.Packing.{length-pack, bitAt-pack, spare-pack, spare-clear, pack-cong}
+use Rattle.packed_word.proofs.Distances.{distance-cong, distance-spare, distance-self}
+use Rattle.parity_check.specs.Code.{Matrix, Word, failing}
+use Rattle.parity_check.proofs.Rows.{failing-cong}
+use Rattle.quantiser.specs.Samples.{Choice, largest, levelOf, levelsOf, hardBit}
+use Rattle.quantiser.specs.Filling.{Fillable, Filled}
+use Rattle.quantiser.proofs.Ranges.{reads-fits, largest-most}
+use Rattle.iterative.specs.Iterative.{startOf, changedBits}
+use Rattle.session_record.specs.Record.{recordFor, stateAfter, outcomeIn}
+use Rattle.session_record.specs.Sessions.{recordOf}
+use Rattle.session_asking.specs.Asked.{Held, openVerdict, stepVerdict}
+use Rattle.session_asking.specs.Reading.{Openable, Steppable}
+use Rattle.session_steps.specs.Steps.{openOf, heldState, stepOf}
+use Rattle.session_steps.specs.Leaving.{openedLeft, steppedState, steppedLeft, Leaves, Lent, Turned}
+use Rattle.session_record.specs.declared.Session.{Session}
+use Rattle.session_asking.proofs.Asking.{finite-first}
+use Rattle.session_steps.proofs.Leaving.{refused-open-keeps, refused-step-keeps, accepted-opens, accepted-steps, start-bits, round-bits}
+
+-- ---- an accepted step
+
+module _ (H : Matrix) (w : List ℕ) (h : Held) (s : Steppable H w h) where
+  -- what the round asks
+  pub step-lent : (L : ℕ) → L ≡ largest (h .rec .bits) → Lent H L (h .word) (h .levels)
+  step-lent L e =
+      record {
+        matrix = s .matrix;
+        largest = omega (arith, largest-most (h .rec .bits) (s .usable .most));
+        bytes = s .bytes;
+        room = s .room;
+        within = λ j l. omega (arith, s .within j l);
+      }
+
+  -- the places at which all bytes differ are those of the code's bits
+  changed-is : distance (8 * bytesFor (H .n)) (bitAt (pack (H .n) (steppedState H h .z))) (bitAt w) ≡ changedBits H (steppedState H h .z) (bitAt w)
+  unfolding changedBits
+  changed-is =
+      let z : ℕ → ℕ = steppedState H h .z in
+      let b : (j : ℕ) → j < H .n → z j < 2 = λ j l. round-bits H (largest (h .rec .bits)) (heldState h) j in
+      let e : 8 * bytesFor (H .n) ≡ H .n + (8 * bytesFor (H .n) - H .n) = omega arith in
+      ap (λ (k : ℕ). distance k (bitAt (pack (H .n) z)) (bitAt w)) e
+      ∙ distance-spare (H .n) (8 * bytesFor (H .n) - H .n) (bitAt (pack (H .n) z)) (bitAt w)
+      (λ j g l. spare-pack (H .n) z b j g ∙ sym (spare-clear (H .n) w (s .clear) j g (omega arith)))
+      ∙ distance-cong (H .n) (bitAt-pack (H .n) z b) (λ j l. refl)
+
+  module _ (L f : ℕ) (word′ : List ℕ) (levels′ : List ℤ) (e : L ≡ largest (h .rec .bits)) (t : Turned H L (h .word) word′ (h .levels) levels′ f) where
+    word-is : word′ ≡ over (pack (H .n) (steppedState H h .z)) (h .word)
+    word-is = rw e at (t .packed)
+
+    front-is : take (bytesFor (H .n)) word′ ≡ pack (H .n) (steppedState H h .z)
+    front-is =
+        ap₂ (λ (x : ℕ) (y : List ℕ). take x y) (sym (length-pack (H .n) (steppedState H h .z))) word-is
+        ∙ take-over (pack (H .n) (steppedState H h .z)) (h .word)
+
+    pub front-long : length (take (bytesFor (H .n)) word′) ≡ bytesFor (H .n)
+    front-long = ap length front-is ∙ length-pack (H .n) (steppedState H h .z)
+
+    -- the record and the report that are made of the counts
+    pub step-leaves : (changed : ℕ) (answer : Answer) (session : Session)
+        → changed ≡ distance (8 * length (take (bytesFor (H .n)) word′)) (bitAt (take (bytesFor (H .n)) word′)) (bitAt w)
+        → recordOf session ≡ recordFor H (stateAfter f (h .rec .k + 1) (h .rec .limit)) (h .rec .bits) (h .rec .limit) (h .rec .k + 1)
+        → saidOf answer ≡ report (outcomeIn (stateAfter f (h .rec .k + 1) (h .rec .limit))) (h .rec .k + 1) f changed
+        → Leaves (steppedLeft H w h) answer session word′ levels′
+    step-leaves changed answer session d r a =
+        let fails : f ≡ failing H (steppedState H h .z) = rw e at (t .fails) in
+        let c : changed ≡ changedBits H (steppedState H h .z) (bitAt w) =
+        d ∙ ap (λ (x : List ℕ). distance (8 * length x) (bitAt x) (bitAt w)) front-is
+        ∙ ap (λ (x : ℕ). distance (8 * x) (bitAt (pack (H .n) (steppedState H h .z))) (bitAt w)) (length-pack (H .n) (steppedState H h .z)) ∙ changed-is in
+        record {
+          says = a ∙ rw (add-one (h .rec .k), fails, c);
+          rec = r ∙ rw (add-one (h .rec .k), fails);
+          word = word-is;
+          levels = rw e at (t .stored);
+        }
+
+-- ---- a step as a whole
+
+module _ (H : Matrix) (w : List ℕ) (h : Held) (answer : Answer) (session : Session) where
+  pub leaves-stepped : (word′ : List ℕ) (levels′ : List ℤ) → stepVerdict H w h ≡ accepted → Leaves (steppedLeft H w h) answer session word′ levels′
+      → Leaves (stepOf H w h) answer session word′ levels′
+  leaves-stepped word′ levels′ e l = rw (accepted-steps H w h e) l
+
+  pub leaves-refused : (k x : ℕ) → stepVerdict H w h ≡ refused k x → saidOf answer ≡ refusal k x → recordOf session ≡ h .rec → Leaves (stepOf H w h) answer session (h .word) (h .levels)
+  leaves-refused k x e a r =
+      rw (refused-step-keeps H w h k x e) (record { says = a; rec = r; word = refl; levels = refl })
+
+-- ---- an accepted opening
+
+module _ (H : Matrix) (S : Choice) (xs : List Float) (h : Held) (o : Openable H S xs h) where
+  -- what filling asks
+  pub open-fillable : Fillable S xs (h .levels)
+  open-fillable =
+      record {
+        setting = reads-fits S (o .setting);
+        finite = finite-first xs (o .finite-all);
+        few = omega (arith, o .samples, o .matrix .sizes .n-most);
+        room = omega (arith, o .samples, o .room);
+      }
+
+  module _ (levels′ : List ℤ) (zeros cells : List ℕ) (q : Filled S xs (h .levels) levels′ zeros cells) where
+    -- the cells are the hard bits
+    cells-are : (j : ℕ) → j < H .n → at cells j ≡ startOf S xs .z j
+    unfolding startOf
+    cells-are j l = q .each j (omega (arith, o .samples))
+
+    pub cells-word : Word H (at cells)
+    unfolding Word
+    cells-word j l = omega (arith, cells-are j l, start-bits S xs j)
+
+    levels-are : levels′ ≡ over (listed (H .n) (startOf S xs .R)) (h .levels)
+    unfolding levelsOf startOf
+    levels-are = q .levels ∙ ap (λ (n : ℕ). over (listed n (λ j. levelOf S (getD xs j nan))) (h .levels)) (o .samples)
+
+    none-changed : 0 ≡ changedBits H (startOf S xs .z) (hardBit xs)
+    unfolding changedBits startOf
+    none-changed = sym (distance-self (H .n) (hardBit xs))
+
+    pub open-leaves : (f : ℕ) (word′ : List ℕ) (answer : Answer) (session : Session) → word′ ≡ over (pack (H .n) (at cells)) (h .word) → f ≡ failing H (at cells)
+        → recordOf session ≡ recordFor H (stateAfter f 0 (S .limit)) (S .bits) (S .limit) 0
+        → saidOf answer ≡ report (outcomeIn (stateAfter f 0 (S .limit))) 0 f 0 → Leaves (openedLeft H S xs h) answer session word′ levels′
+    open-leaves f word′ answer session w e r a =
+        let fails : f ≡ failing H (startOf S xs .z) = e ∙ failing-cong H (o .matrix .rows) (at cells) (startOf S xs .z) cells-are in
+        record {
+          says = a ∙ rw (fails, none-changed);
+          rec = r ∙ rw fails;
+          word = w ∙ ap (λ (x : List ℕ). over x (h .word)) (pack-cong (H .n) (at cells) (startOf S xs .z) cells-are);
+          levels = levels-are;
+        }
+
+-- ---- an opening as a whole
+
+module _ (H : Matrix) (S : Choice) (xs : List Float) (h : Held) (answer : Answer) (session : Session) where
+  pub leaves-opened : (word′ : List ℕ) (levels′ : List ℤ) → openVerdict H S xs h ≡ accepted → Leaves (openedLeft H S xs h) answer session word′ levels′
+      → Leaves (openOf H S xs h) answer session word′ levels′
+  leaves-opened word′ levels′ e l = rw (accepted-opens H S xs h e) l
+
+  pub leaves-unopened : (k x : ℕ) → openVerdict H S xs h ≡ refused k x → saidOf answer ≡ refusal k x → recordOf session ≡ h .rec → Leaves (openOf H S xs h) answer session (h .word) (h .levels)
+  leaves-unopened k x e a r =
+      rw (refused-open-keeps H S xs h k x e) (record { says = a; rec = r; word = refl; levels = refl })
