@@ -1,2 +1,1 @@
-pub mod Voting
 pub mod Answering

@@ -16,7 +16,7 @@ use Rattle.packed_word.specs.Steps.{at}
 use Rattle.sample_levels.specs.Samples.{Choice, magnitude, levelOf, levelsOf, hardBit}
 use Rattle.sample_levels.specs.Scaling.{levelBy, levelAt, Scaled}
 use Rattle.quantiser.specs.Filling.{Stored, Filled}
-use Rattle.quantiser.proofs.Ranges.{hard-bit-at}
+use Rattle.settings.proofs.Ranges.{hard-bit-at}
 
 module _ {f : ℕ → ℤ} {b : ℕ → ℕ} {ls : List ℤ} {bs : List ℕ} where
   pub stored-none : Stored f b 0 ls ls bs bs

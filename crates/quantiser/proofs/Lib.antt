@@ -1,3 +1,3 @@
-pub mod Ranges
+pub use Rattle.settings.proofs.Ranges
 pub mod Filling
 pub mod Verdicts

@@ -20,9 +20,9 @@ use Rattle.packed_word.specs.Packed.{bytesFor, pack}
 use Rattle.packed_word.specs.Steps.{at}
 use Rattle.packed_word.proofs.Packing.{pack-cong}
 use Rattle.sample_levels.specs.Samples.{Choice, settingFits, levelsOf, hardBit, hardWord, notFinite, firstNotFinite, quantiseVerdict}
-use Rattle.quantiser.specs.Ranges.{Acceptable}
+use Rattle.quantiser.specs.Reading.{Acceptable}
 use Rattle.quantiser.specs.Filling.{tooShort, Filled, Quantised}
-use Rattle.quantiser.proofs.Ranges.{fits-reads, reads-fits, all-finite}
+use Rattle.settings.proofs.Ranges.{fits-reads, reads-fits, all-finite}
 
 -- ---- the verdict
 

@@ -1,20 +1,18 @@
 -- Document 01's examples of levels and hard bits, in one table with one proof.
 --   Given, Yields   == a width, a step and a sample as bit patterns of single-format floats; the level and the hard bit
 --   Row             == a sample with what it is to yield
---   choice b kind d == a setting with the round limit 5
 --   made g          == what the definitions yield
 --   eachMade, eachWanted   == what they yield and are to yield for each row
 --   table           == "With level step 0.5 and b = 3 ..", "With full scale 4 and b = 3 .."
 --   every-row       == the definitions yield each row
---   widths, every-width   == the widths around the range, and whether a setting may have them
 -- Assumes nothing.
 use Prim.Native.Nat.{ℕ}
 use mathlib.Core.Path.{_≡_, refl}
-use mathlib.Core.Bool.{Bool, true, false}
 use mathlib.Core.List.{List, [], _∷_}
 use lib.IntN.{ℤ, pos, negsuc}
-use lib.Ieee.{binary32, ofBits, ofFields, odd, lt, le}
-use Rattle.sample_levels.specs.Samples.{Choice, stepFits, settingFits, nearest, magnitude, levelOf, hardOf}
+use lib.Ieee.{binary32, ofBits, ofFields, odd, lt}
+use Rattle.sample_levels.specs.Samples.{nearest, magnitude, levelOf, hardOf}
+use Rattle.settings.specs.Examples.{choice}
 
 pub record Given : Type 0 where
   pub bits : ℕ
@@ -29,10 +27,6 @@ pub record Yields : Type 0 where
 pub record Row : Type 0 where
   pub given : Given
   pub yields : Yields
-
--- a setting with the round limit 5
-unfoldable pub choice : ℕ → ℕ → ℕ → Choice
-choice bits kind step = record { bits = bits; limit = 5; kind = kind; step = ofBits binary32 step }
 
 unfoldable pub made : Given → Yields
 made g =
@@ -77,14 +71,3 @@ table =
 pub every-row : eachMade table ≡ eachWanted table
 unfolding table eachMade eachWanted made choice levelOf magnitude nearest hardOf ofBits ofFields odd lt
 every-row = refl
-
--- "b = 8 passes, 9 is refusal 6", and so at the other end
-unfoldable pub widths : List Bool
-widths = fits 1 ∷ fits 2 ∷ fits 8 ∷ fits 9 ∷ []
-  where
-    fits : ℕ → Bool
-    fits b = settingFits (choice b 0 0x3f00_0000)
-
-pub every-width : widths ≡ false ∷ true ∷ true ∷ false ∷ []
-unfolding widths choice settingFits stepFits ofBits ofFields odd le
-every-width = refl

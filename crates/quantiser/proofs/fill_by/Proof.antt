@@ -8,7 +8,7 @@ use lib.ListN.{length}
 use Rattle.sample_levels.specs.Samples.{hardBit}
 use Rattle.sample_levels.specs.Scaling.{levelAt}
 use Rattle.quantiser.specs.Filling.{Stored}
-use Rattle.quantiser.proofs.Ranges.{all-finite}
+use Rattle.settings.proofs.Ranges.{all-finite}
 use Rattle.sample_levels.proofs.Signs.{cell}
 use Rattle.quantiser.proofs.Filling.{stored-none, stored-more}
 use Rattle.quantiser.proofs.fill_by.Statement.{statement}

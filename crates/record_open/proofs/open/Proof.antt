@@ -61,9 +61,9 @@ use Rattle.answers.proofs.Answer.Laws as Ans′
 use Rattle.matrix.specs.declared.Shape.{Shape}
 use Rattle.matrix.proofs.Shape as Shape-type
 use Rattle.matrix.proofs.Shape.Laws as Shape-laws
-use Rattle.quantiser.specs.declared.Setting.{Setting}
-use Rattle.quantiser.proofs.Setting as Setting-type
-use Rattle.quantiser.proofs.Setting.Laws as Setting-laws
+use Rattle.settings.specs.declared.Setting.{Setting}
+use Rattle.settings.proofs.Setting as Setting-type
+use Rattle.settings.proofs.Setting.Laws as Setting-laws
 use Rattle.session_opening.proofs.open_value as callee
 use Rattle.session_opening.proofs.open_value.Symbol as callee-def
 use Rattle.session_opening.proofs.open_value.Symbol.{name as #callee}

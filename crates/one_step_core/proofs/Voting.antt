@@ -13,7 +13,7 @@ use Rattle.majority_logic.specs.Voting.{flipWhen}
 use Rattle.majority_logic.specs.OneStep.{stepWord, stepRounds}
 use Rattle.majority_logic.proofs.Correction.{flipped-by, stepWord-flipped, stepWord-bit}
 use Rattle.votes.specs.Tallies.{Tallied, Voted}
-use Rattle.one_step.specs.Stepped.{Stepped}
+use Rattle.one_step_core.specs.Stepped.{Stepped}
 
 -- the rounds of a word with and without failing checks
 rounds-none : (H : Matrix) (z : ℕ → ℕ) → failing H z ≡ 0 → stepRounds H z ≡ 0

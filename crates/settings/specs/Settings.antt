@@ -6,9 +6,9 @@
 use Prim.Native.Nat.{ℕ}
 use lib.Ieee.{Float}
 use Rattle.sample_levels.specs.Samples.{Choice}
-use Rattle.quantiser.specs.declared.Setting.{Setting}
-use Rattle.quantiser.specs.declared.Step.{Step}
-use Rattle.quantiser.specs.declared.Step.the-variants.{Level, FullScale}
+use Rattle.settings.specs.declared.Setting.{Setting}
+use Rattle.settings.specs.declared.Step.{Step}
+use Rattle.settings.specs.declared.Step.the-variants.{Level, FullScale}
 
 abbrev pub kindOf : Step → ℕ
 kindOf (Level d) = 0

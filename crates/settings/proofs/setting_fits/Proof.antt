@@ -1,15 +1,15 @@
--- `quantiser::setting_fits` meets its contract: the tests are the definition's in its order, and both kinds of step are at most 1. Assumes nothing.
+-- `settings::setting_fits` meets its contract: the tests are the definition's in its order, and both kinds of step are at most 1. Assumes nothing.
 use mathlib.Core.Path.{_≡_, refl, ap, _∙_}
 use mathlib.Core.Bool.{true}
 use borrow.Author.Needs.{needs}
 use borrow.Author.Tests.{le-leb, lt-leb}
 use lib.Dec.{leb}
-use Rattle.quantiser.specs.declared.Step.{Step}
-use Rattle.quantiser.specs.declared.Step.the-variants.{Level, FullScale}
+use Rattle.settings.specs.declared.Step.{Step}
+use Rattle.settings.specs.declared.Step.the-variants.{Level, FullScale}
 use Rattle.sample_levels.specs.Samples.{stepFits, settingFits}
-use Rattle.quantiser.specs.Settings.{kindOf}
-use Rattle.quantiser.proofs.setting_fits.Statement.{statement}
-use Rattle.quantiser.proofs.setting_fits.Tie as tie
+use Rattle.settings.specs.Settings.{kindOf}
+use Rattle.settings.proofs.setting_fits.Statement.{statement}
+use Rattle.settings.proofs.setting_fits.Tie as tie
 
 kind-fits : (s : Step) → leb (kindOf s) 1 ≡ true
 kind-fits (Level d) = refl

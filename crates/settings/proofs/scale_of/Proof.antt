@@ -1,20 +1,20 @@
--- `quantiser::scale_of` meets its contract: a setting in range has a gain and a largest level of at most 7 bits, and a step with its leading one. Assumes nothing.
+-- `settings::scale_of` meets its contract: a setting in range has a gain and a largest level of at most 7 bits, and a step with its leading one. Assumes nothing.
 use mathlib.Core.Path.{_≡_, refl, ap, _∙_}
 use mathlib.Core.Bool.{true, cond}
 use Prim.Native.Nat.{ℕ, _≤_, _<_}
 use borrow.Author.Needs.{needs}
 use native.Mathlib.Omega.{arith}
 use lib.Dec.{eqb}
-use Rattle.quantiser.specs.declared.Step.{Step}
-use Rattle.quantiser.specs.declared.Step.the-variants.{Level, FullScale}
+use Rattle.settings.specs.declared.Step.{Step}
+use Rattle.settings.specs.declared.Step.the-variants.{Level, FullScale}
 use Rattle.sample_levels.specs.Samples.{stepFits, largest}
-use Rattle.quantiser.specs.Settings.{choiceOf, kindOf}
-use Rattle.quantiser.specs.Ranges.{InRange}
-use Rattle.quantiser.specs.Settings.{gainBy}
-use Rattle.quantiser.proofs.Ranges.{fits-reads, largest-some, largest-most}
+use Rattle.settings.specs.Settings.{choiceOf, kindOf}
+use Rattle.settings.specs.Ranges.{InRange}
+use Rattle.settings.specs.Settings.{gainBy}
+use Rattle.settings.proofs.Ranges.{fits-reads, largest-some, largest-most}
 use Rattle.sample_levels.proofs.Floats.{step-finite, step-lead, moved}
-use Rattle.quantiser.proofs.scale_of.Statement.{statement}
-use Rattle.quantiser.proofs.scale_of.Tie as tie
+use Rattle.settings.proofs.scale_of.Statement.{statement}
+use Rattle.settings.proofs.scale_of.Tie as tie
 
 range : (c : tie.Start) → InRange (choiceOf (c .args .setting))
 range c = fits-reads (choiceOf (c .args .setting)) (c .pre)

@@ -1,4 +1,4 @@
--- `one_step::one_step_accepted` meets its contract: unpacked, voted on, packed, and counted against what was received. Assumes nothing.
+-- `one_step_core::one_step_accepted` meets its contract: unpacked, voted on, packed, and counted against what was received. Assumes nothing.
 use mathlib.Core.Path.{_≡_, sym, _∙_}
 use mathlib.Core.List.{List}
 use Prim.Native.Nat.{ℕ}
@@ -10,9 +10,9 @@ use Rattle.packed_word.specs.Packed.{bytesFor}
 use Rattle.parity_check.specs.Code.{Matrix}
 use Rattle.parity_check.specs.Shapes.{matrixOf}
 use Rattle.syndrome.proofs.Unpacking.{unpacked-word}
-use Rattle.one_step.proofs.Answering.{stepped-bits, written-long, voted-call}
-use Rattle.one_step.proofs.one_step_accepted.Statement.{statement}
-use Rattle.one_step.proofs.one_step_accepted.Tie as tie
+use Rattle.one_step_core.proofs.Finishing.{stepped-bits, written-long, voted-call}
+use Rattle.one_step_core.proofs.one_step_accepted.Statement.{statement}
+use Rattle.one_step_core.proofs.one_step_accepted.Tie as tie
 
 cast-n : tie.Need-cast-n
 cast-n c = search needs

@@ -1,10 +1,10 @@
--- `quantiser::step_fits` meets its contract: the code's two tests are the definition's. Assumes nothing.
+-- `settings::step_fits` meets its contract: the code's two tests are the definition's. Assumes nothing.
 use mathlib.Core.Path.{sym, ap, _∙_}
 use mathlib.Core.Bool.{Bool, _&&_}
 use lib.Ieee.{binary32, le, ofBits}
 use Rattle.sample_levels.specs.Samples.{stepFits}
-use Rattle.quantiser.proofs.step_fits.Statement.{statement}
-use Rattle.quantiser.proofs.step_fits.Tie as tie
+use Rattle.settings.proofs.step_fits.Statement.{statement}
+use Rattle.settings.proofs.step_fits.Tie as tie
 
 returns : tie.Need-returns
 unfolding ofBits stepFits

@@ -1,10 +1,10 @@
--- `one_step::vote` meets its contract: the tally, and where a check fails the flips and the count, are the definition's. Assumes nothing.
+-- `one_step_core::vote` meets its contract: the tally, and where a check fails the flips and the count, are the definition's. Assumes nothing.
 use borrow.Author.Needs.{needs}
 use Rattle.parity_check.specs.Code.{Matrix, Word}
 use Rattle.parity_check.specs.Shapes.{matrixOf}
-use Rattle.one_step.proofs.Voting.{stepped-clean, stepped-voted, voted-bits}
-use Rattle.one_step.proofs.vote.Statement.{statement}
-use Rattle.one_step.proofs.vote.Tie as tie
+use Rattle.one_step_core.proofs.Voting.{stepped-clean, stepped-voted, voted-bits}
+use Rattle.one_step_core.proofs.vote.Statement.{statement}
+use Rattle.one_step_core.proofs.vote.Tie as tie
 
 tally-requires : tie.Need-tally-requires
 tally-requires c κs = search needs

@@ -1,0 +1,2 @@
+pub mod Voting
+pub mod Finishing
