@@ -1,7 +1,7 @@
--- Laws of the lines of blocks: one line, line after line, and the end of a chunk.
+-- Laws of the lines of blocks: line after line, and the end of a chunk.
 --   Lined H S i bs at old k from new end   == the lines of the first k blocks are put, and block k begins at `from`
 -- Assumes nothing.
-use mathlib.Core.Path.{_≡_, refl, sym, ap, ap₂, _∙_}
+use mathlib.Core.Path.{_≡_, sym, ap₂}
 use mathlib.Core.List.{List, append-nil}
 use Prim.Native.Nat.{ℕ, suc, _+_, _*_, _-_, _/_, _%_, _≤_, _<_}
 use native.Mathlib.Nat.{zero-mul, suc-mul, le-div-iff-mul-le, div-lt-iff-lt-mul}
@@ -9,20 +9,15 @@ use native.Mathlib.Numerals.{add-one}
 use native.Mathlib.Omega.{arith}
 use borrow.Author.Tests.{eq-eqb, ne-eqb}
 use lib.ListN.{length, take, drop, length-take, length-drop}
-use Rattle.counting.specs.Lists.{over}
-use Rattle.counting.proofs.Writing.{take-over}
-use Rattle.answers.specs.Paper.{Verdict, accepted, refused, Said, after, written}
-use Rattle.packed_word.specs.Packed.{bytesFor}
-use Rattle.packed_word.proofs.Packing.{length-pack}
 use Rattle.parity_check.specs.Code.{Matrix}
-use Rattle.quantiser.specs.Samples.{Choice, hardBit}
-use Rattle.iterative.specs.Iterative.{endFrom, reportAt, iterativeWord}
-use Rattle.text.specs.Output.{shortText, saidText, blockText}
+use Rattle.quantiser.specs.Samples.{Choice}
+use Rattle.text.specs.Output.{shortText}
 use Rattle.numerals.specs.Putting.{PutWithin}
 use Rattle.numerals.proofs.Puts.{put-none, put-then, put-as, put-length}
-use Rattle.input.specs.Input.{samplesIn}
-use Rattle.block_lines.specs.Lending.{Answered, Printable, Countable}
-use Rattle.block_lines.specs.Blocks.{blockVerdict, blockSaid, blockLine, blocksIn, blockAt, blockLines, chunkText}
+use Rattle.one_block.specs.Lending.{Printable}
+use Rattle.one_block.specs.Saying.{blockLine}
+use Rattle.block_lines.specs.Lending.{Countable}
+use Rattle.block_lines.specs.Blocks.{blocksIn, blockAt, blockLines, chunkText}
 
 -- ---- counting blocks of d bytes
 
@@ -39,31 +34,6 @@ module _ (d len k : ℕ) (some : 0 < d) where
       omega arith
 
 module _ (H : Matrix) (S : Choice) where
-  -- ---- one line
-
-  module _ (i : ℕ) (bs : List ℕ) where
-    -- a verdict's line does not read the buffer past the word
-    by-verdict : (w : List ℕ) (v : Verdict)
-        → blockText i (after v (reportAt H (hardBit (samplesIn bs)) (endFrom H S (samplesIn bs)))) (take (bytesFor (H .n)) (written v (iterativeWord H S (samplesIn bs)) w))
-        ≡ blockText i (after v (reportAt H (hardBit (samplesIn bs)) (endFrom H S (samplesIn bs)))) (iterativeWord H S (samplesIn bs))
-    unfolding blockText saidText iterativeWord
-    by-verdict w accepted =
-        let word = iterativeWord H S (samplesIn bs) in
-        ap (blockText i (reportAt H (hardBit (samplesIn bs)) (endFrom H S (samplesIn bs))))
-        (ap (λ (k : ℕ). take k (over word w)) (sym (length-pack (H .n) (endFrom H S (samplesIn bs) .last .z))) ∙ take-over word w)
-    by-verdict w (refused k x) = refl
-
-    -- the line of a block by its answer, and by the front of the word that was lent
-    line-of : {said : Said} {w w′ : List ℕ} → Answered H S bs said w w′ → blockText i said (take (bytesFor (H .n)) w′) ≡ blockLine H S i bs
-    unfolding blockLine blockSaid
-    line-of {w} a =
-        ap₂ (λ (s : Said) (x : List ℕ). blockText i s (take (bytesFor (H .n)) x)) (a .answer) (a .word) ∙ by-verdict w (blockVerdict (samplesIn bs))
-
-    -- it has at most 33 bytes and the 256 digits of the longest word
-    pub line-put : {said : Said} {w w′ old new : List ℕ} {at end : ℕ} → H .n ≤ 1023 → Answered H S bs said w w′
-        → PutWithin (33 + 2 * length (take (bytesFor (H .n)) w′)) (blockText i said (take (bytesFor (H .n)) w′)) at old new end → PutWithin 289 (blockLine H S i bs) at old new end
-    line-put {w′} few a p = record { put = put-as (line-of a) (p .put); within = omega (arith, p .within, few, length-take (bytesFor (H .n)) w′) }
-
   -- ---- line after line
 
   module _ (i : ℕ) (bs : List ℕ) (at : ℕ) (old : List ℕ) where

@@ -27,7 +27,8 @@ use Rattle.numerals.specs.Numerals.{ascii, digit, digitsWithin, decimal, hex}
 use Rattle.text.specs.Output.{line, heading, shortText, refusedText, saidText, blockText}
 use Rattle.input.specs.Input.{number16, number32, float, matrixIn, entryIn, entriesIn, choiceIn, sampleIn, samplesIn}
 use Rattle.input.specs.Opening.{settingVerdict, openingVerdict}
-use Rattle.block_lines.specs.Blocks.{blockVerdict, blockSaid, blockLine, blockAt, blockLines, chunkText}
+use Rattle.one_block.specs.Saying.{blockVerdict, blockSaid, blockLine}
+use Rattle.block_lines.specs.Blocks.{blockAt, blockLines, chunkText}
 use Rattle.stream.specs.Program.{blocksText, restText, sizedText, printed}
 
 unfoldable pub low16 : List ℕ → List ℕ

@@ -1,9 +1,9 @@
--- `stream::end_short` meets its contract: the heading, and `short` after it. Assumes nothing.
+-- `run_ends::end_short` meets its contract: the heading, and `short` after it. Assumes nothing.
 use native.Mathlib.Omega.{arith}
 use borrow.Author.Needs.{needs}
-use Rattle.stream.proofs.Ending.{line-after}
-use Rattle.stream.proofs.end_short.Statement.{statement}
-use Rattle.stream.proofs.end_short.Tie as tie
+use Rattle.run_ends.proofs.Ending.{line-after}
+use Rattle.run_ends.proofs.end_short.Statement.{statement}
+use Rattle.run_ends.proofs.end_short.Tie as tie
 
 put-short-requires : tie.Need-put-short-requires
 put-short-requires c κs = search needs

@@ -1,13 +1,13 @@
--- `codes::counted_code` meets its contract: each case by what it ensures. Assumes nothing.
+-- `answer_codes::counted_code` meets its contract: each case by what it ensures. Assumes nothing.
 use Prim.Native.Nat.{ℕ, _+_, _*_}
 use native.Mathlib.Omega.{arith}
 use mathlib.Core.Path.{_≡_, sym, ap, _∙_}
 use Rattle.answers.specs.declared.Counted.{Counted}
 use Rattle.answers.specs.Answers.{countedOf}
-use Rattle.codes.specs.Codes.{codeOf}
+use Rattle.answer_codes.specs.Codes.{codeOf}
 use borrow.Author.Needs.{needs}
-use Rattle.codes.proofs.counted_code.Statement.{statement}
-use Rattle.codes.proofs.counted_code.Tie as tie
+use Rattle.answer_codes.proofs.counted_code.Statement.{statement}
+use Rattle.answer_codes.proofs.counted_code.Tie as tie
 
 enum-known-a : tie.Need-enum-known-a
 enum-known-a c = search needs

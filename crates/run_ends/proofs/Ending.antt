@@ -1,24 +1,19 @@
--- Laws of the output buffer as the run begins and ends. Assumes nothing.
+-- Laws of the output buffer as the run ends. Assumes nothing.
 use mathlib.Core.Path.{_≡_, sym, ap, _∙_}
 use mathlib.Core.List.{List, _++_}
 use Prim.Native.Nat.{ℕ, _≤_}
 use native.Mathlib.Omega.{arith}
-use lib.ListN.{length, take}
+use lib.ListN.{take}
 use Rattle.numerals.specs.Putting.{PutWithin}
-use Rattle.numerals.proofs.Puts.{put-front, put-length}
+use Rattle.numerals.proofs.Puts.{put-front}
 use Rattle.parity_check.specs.Code.{Matrix}
 use Rattle.quantiser.specs.Samples.{Choice}
 use Rattle.text.specs.Output.{heading, refusedText}
 use Rattle.input.specs.Opening.{Opening, refusedBy, opening, openingVerdict}
 use Rattle.block_turns.specs.Lending.{Held}
-use Rattle.stream.specs.Ending.{Ended, refusal}
+use Rattle.run_ends.specs.Ending.{Ended, refusal}
 
--- the heading is put
-pub headed : {at : ℕ} {old new : List ℕ} → length new ≡ 65536 → PutWithin 38 heading 0 old new at → Held 0 at new
-headed e p =
-    record { begins = put-front (omega (arith, e, put-length (p .put), p .within, p .put .ends)) (p .put); little = p .within; long = e }
-
--- a line is put after it, of at most 20 bytes, and all is printed
+-- a line is put after the heading, of at most 20 bytes, and all is printed
 pub line-after : {k at end r : ℕ} {text old new : List ℕ} → k ≤ 20 → Held 0 at old → PutWithin k text at old new end → r ≡ end → take r new ≡ heading ++ text
 line-after {text} {new} few b p e =
     ap (λ (x : ℕ). take x new) e

@@ -1,13 +1,13 @@
--- `block_lines::decode` meets its contract: refusal 8, or the core's answer on the samples. Assumes nothing.
+-- `one_block::decode` meets its contract: refusal 8, or the core's answer on the samples. Assumes nothing.
 use mathlib.Core.Path.{sym, ap, _∙_}
 use borrow.Author.Needs.{needs}
 use lib.ListN.{length}
 use Rattle.parity_check.specs.Shapes.{matrixOf}
 use Rattle.quantiser.specs.Samples.{firstNotFinite}
 use Rattle.quantiser.specs.Settings.{choiceOf}
-use Rattle.block_lines.proofs.Answering.{samples-n, block-refuses, block-passes, all-finite, all-written, answered-refused, answered}
-use Rattle.block_lines.proofs.decode.Statement.{statement}
-use Rattle.block_lines.proofs.decode.Tie as tie
+use Rattle.one_block.proofs.Answering.{samples-n, block-refuses, block-passes, all-finite, all-written, answered-refused, answered}
+use Rattle.one_block.proofs.decode.Statement.{statement}
+use Rattle.one_block.proofs.decode.Tie as tie
 
 cast-n : tie.Need-cast-n
 cast-n c = search needs

@@ -1,4 +1,4 @@
--- `stream::run_on_list` meets its contract: it ends in one of three ways, and blocks are read with an accepted matrix and a setting in range alone. Assumes nothing.
+-- `run_ends::run_on_list` meets its contract: it ends in one of three ways, and blocks are read with an accepted matrix and a setting in range alone. Assumes nothing.
 use mathlib.Core.Path.{refl, ap}
 use native.Mathlib.Omega.{arith}
 use borrow.Author.Needs.{needs}
@@ -7,10 +7,10 @@ use Rattle.quantiser.specs.Settings.{choiceOf}
 use Rattle.input.specs.Input.{choiceIn}
 use Rattle.input.specs.Runs.{openedOf}
 use Rattle.input.proofs.Openings.{decodable}
-use Rattle.stream.specs.Ending.{short, decoded}
-use Rattle.stream.proofs.Ending.{ended-refused}
-use Rattle.stream.proofs.run_on_list.Statement.{statement}
-use Rattle.stream.proofs.run_on_list.Tie as tie
+use Rattle.run_ends.specs.Ending.{short, decoded}
+use Rattle.run_ends.proofs.Ending.{ended-refused}
+use Rattle.run_ends.proofs.run_on_list.Statement.{statement}
+use Rattle.run_ends.proofs.run_on_list.Tie as tie
 
 slice-aggregate-read : tie.Need-slice-aggregate-read
 slice-aggregate-read c = refl

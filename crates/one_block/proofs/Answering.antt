@@ -21,8 +21,8 @@ use Rattle.input.specs.Input.{sampleIn, samplesIn}
 use Rattle.input.specs.Opening.{Decodable}
 use Rattle.input.specs.Sampling.{Sampled}
 use Rattle.input.proofs.Sampling.{length-samples}
-use Rattle.block_lines.specs.Lending.{Answered}
-use Rattle.block_lines.specs.Blocks.{blockVerdict, blockSaid}
+use Rattle.one_block.specs.Lending.{Answered}
+use Rattle.one_block.specs.Saying.{blockVerdict, blockSaid}
 
 module _ (n : ℕ) (bs : List ℕ) (whole : length bs ≡ 4 * n) where
   pub samples-n : length (samplesIn bs) ≡ n

@@ -1,12 +1,12 @@
--- `block_lines::block` meets its contract: the line of the answer and the word. Assumes nothing.
+-- `one_block::block` meets its contract: the line of the answer and the word. Assumes nothing.
 use native.Mathlib.Omega.{arith}
 use borrow.Author.Needs.{needs}
 use lib.ListN.{length-take}
 use Rattle.parity_check.specs.Shapes.{matrixOf}
 use Rattle.quantiser.specs.Settings.{choiceOf}
-use Rattle.block_lines.proofs.Lining.{line-put}
-use Rattle.block_lines.proofs.block.Statement.{statement}
-use Rattle.block_lines.proofs.block.Tie as tie
+use Rattle.one_block.proofs.Printing.{line-put}
+use Rattle.one_block.proofs.block.Statement.{statement}
+use Rattle.one_block.proofs.block.Tie as tie
 
 cast-n : tie.Need-cast-n
 cast-n c = search needs

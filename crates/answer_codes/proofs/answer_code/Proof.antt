@@ -1,11 +1,11 @@
--- `codes::answer_code` meets its contract: each case by what its own code ensures. Assumes nothing.
+-- `answer_codes::answer_code` meets its contract: each case by what its own code ensures. Assumes nothing.
 use mathlib.Core.Path.{sym, ap, subst, _∙_}
 use Rattle.answers.specs.declared.Answer.{Answer}
 use Rattle.answers.specs.Answers.{saidOf}
-use Rattle.codes.specs.Codes.{codeOf, Small}
+use Rattle.answer_codes.specs.Codes.{codeOf, Small}
 use borrow.Author.Needs.{needs}
-use Rattle.codes.proofs.answer_code.Statement.{statement}
-use Rattle.codes.proofs.answer_code.Tie as tie
+use Rattle.answer_codes.proofs.answer_code.Statement.{statement}
+use Rattle.answer_codes.proofs.answer_code.Tie as tie
 
 enum-known-a : tie.Need-enum-known-a
 enum-known-a c = search needs

@@ -1,9 +1,9 @@
--- `stream::end_refused` meets its contract: the heading, and the refusal after it. Assumes nothing.
+-- `run_ends::end_refused` meets its contract: the heading, and the refusal after it. Assumes nothing.
 use native.Mathlib.Omega.{arith}
 use borrow.Author.Needs.{needs}
-use Rattle.stream.proofs.Ending.{line-after}
-use Rattle.stream.proofs.end_refused.Statement.{statement}
-use Rattle.stream.proofs.end_refused.Tie as tie
+use Rattle.run_ends.proofs.Ending.{line-after}
+use Rattle.run_ends.proofs.end_refused.Statement.{statement}
+use Rattle.run_ends.proofs.end_refused.Tie as tie
 
 put-refused-requires : tie.Need-put-refused-requires
 put-refused-requires c κs = search needs

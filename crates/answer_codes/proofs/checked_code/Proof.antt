@@ -1,12 +1,12 @@
--- `codes::checked_code` meets its contract: a refusal by what its own code ensures. Assumes nothing.
+-- `answer_codes::checked_code` meets its contract: a refusal by what its own code ensures. Assumes nothing.
 use mathlib.Core.Path.{sym, ap, _∙_}
 use Rattle.answers.specs.declared.Checked.{Checked}
 use Rattle.answers.specs.Answers.{verdictOf}
 use Rattle.answers.specs.Paper.{after, report}
-use Rattle.codes.specs.Codes.{codeOf}
+use Rattle.answer_codes.specs.Codes.{codeOf}
 use borrow.Author.Needs.{needs}
-use Rattle.codes.proofs.checked_code.Statement.{statement}
-use Rattle.codes.proofs.checked_code.Tie as tie
+use Rattle.answer_codes.proofs.checked_code.Statement.{statement}
+use Rattle.answer_codes.proofs.checked_code.Tie as tie
 
 enum-told : tie.Need-enum-told
 enum-told c = search needs

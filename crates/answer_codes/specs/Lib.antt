@@ -1,0 +1,2 @@
+-- What the contracts of `answer_codes` cite.
+pub mod Codes

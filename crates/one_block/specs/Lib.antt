@@ -1,0 +1,3 @@
+-- What the contracts of `one_block` cite.
+pub mod Saying
+pub mod Lending

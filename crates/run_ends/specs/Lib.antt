@@ -1,0 +1,2 @@
+-- What the contracts of `run_ends` cite.
+pub mod Ending
