@@ -15,8 +15,8 @@ use Rattle.packed_word.specs.Packed.{bytesFor}
 use Rattle.parity_check.specs.Code.{Matrix}
 use Rattle.parity_check.proofs.Reading.{is-accepted}
 use Rattle.quantiser.specs.Samples.{Choice, hardBit, notFinite, firstNotFinite}
-use Rattle.iterative.specs.Iterative.{endFrom, reportAt, iterativeVerdict, iterativeOf, iterativeWord}
-use Rattle.iterative.specs.Calls.{Decoded}
+use Rattle.iterative_core.specs.Iterative.{endFrom, reportAt, iterativeVerdict, iterativeOf, iterativeWord}
+use Rattle.iterative_core.specs.Calls.{Decoded}
 use Rattle.input.specs.Input.{sampleIn, samplesIn}
 use Rattle.input.specs.Opening.{Decodable}
 use Rattle.input.specs.Sampling.{Sampled}

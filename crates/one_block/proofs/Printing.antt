@@ -11,7 +11,7 @@ use Rattle.packed_word.specs.Packed.{bytesFor}
 use Rattle.packed_word.proofs.Packing.{length-pack}
 use Rattle.parity_check.specs.Code.{Matrix}
 use Rattle.quantiser.specs.Samples.{Choice, hardBit}
-use Rattle.iterative.specs.Iterative.{endFrom, reportAt, iterativeWord}
+use Rattle.iterative_core.specs.Iterative.{endFrom, reportAt, iterativeWord}
 use Rattle.text.specs.Output.{saidText, blockText}
 use Rattle.numerals.specs.Putting.{PutWithin}
 use Rattle.numerals.proofs.Puts.{put-as}

@@ -10,7 +10,7 @@ use lib.ListN.{length}
 use Rattle.answers.specs.Paper.{Verdict, accepted, refuseAt, Said, after}
 use Rattle.parity_check.specs.Code.{Matrix}
 use Rattle.quantiser.specs.Samples.{Choice, hardBit, firstNotFinite}
-use Rattle.iterative.specs.Iterative.{endFrom, reportAt, iterativeWord}
+use Rattle.iterative_core.specs.Iterative.{endFrom, reportAt, iterativeWord}
 use Rattle.text.specs.Output.{blockText}
 use Rattle.input.specs.Input.{samplesIn}
 

@@ -1,5 +1,5 @@
 // One block of samples, as functions on slices: its answer and word, and its line.
-// Rests on `input`, `iterative` and `text`. Document 01: "Worked by hand", the paragraph on the program.
+// Rests on `input`, `iterative_core` and `text`. Document 01: "Worked by hand", the paragraph on the program.
 use answers::Answer;
 use answers::Refusal;
 use parity_check::Shape;
@@ -31,7 +31,7 @@ pub fn decode(
         return Answer::Refused(Refusal::Sample(place as u16));
     }
     let mut levels = [0i8; 1023];
-    let report = iterative::iterative_accepted(
+    let report = iterative_core::iterative_accepted(
         shape,
         list,
         index,

@@ -21,7 +21,7 @@ use Rattle.parity_check.specs.Reading.{Accepted}
 use Rattle.parity_check.proofs.Reading.{accepted-is, is-accepted}
 use Rattle.quantiser.specs.Samples.{Choice, mostBits, largest, notFinite, firstNotFinite}
 use Rattle.quantiser.proofs.Ranges.{fits-reads, reads-fits, all-finite}
-use Rattle.iterative.specs.Iterative.{iterativeVerdict}
+use Rattle.iterative_core.specs.Iterative.{iterativeVerdict}
 use Rattle.session_record.specs.Record.{Record, working, decoded, failed}
 use Rattle.session_asking.specs.Asked.{Held, unusable, ended, otherSizes, wrongBuffers, beyond, openVerdict, stepVerdict}
 use Rattle.session_asking.specs.Reading.{Openable, Usable, Steppable}

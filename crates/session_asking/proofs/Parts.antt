@@ -15,7 +15,7 @@ use Rattle.packed_word.specs.Packed.{bitAt, bytesFor, spareSet}
 use Rattle.parity_check.specs.Code.{Matrix}
 use Rattle.parity_check.specs.Check.{checkOf}
 use Rattle.quantiser.specs.Samples.{Choice, settingFits, firstNotFinite}
-use Rattle.iterative.specs.Iterative.{iterativeVerdict}
+use Rattle.iterative_core.specs.Iterative.{iterativeVerdict}
 use Rattle.session_asking.specs.Asked.{Held, unusable, ended, otherSizes, wrongBuffers, beyond, stepVerdict}
 use Rattle.session_asking.specs.Parts.{wrongLengths, samplesVerdict, knownVerdict, lentVerdict}
 

@@ -21,7 +21,7 @@ use Rattle.parity_check.specs.Code.{Matrix}
 use Rattle.parity_check.specs.Check.{checkOf}
 use Rattle.syndrome.specs.Failing.{wrongLength}
 use Rattle.quantiser.specs.Samples.{Choice, largest, mostBits}
-use Rattle.iterative.specs.Iterative.{iterativeVerdict}
+use Rattle.iterative_core.specs.Iterative.{iterativeVerdict}
 use Rattle.session_record.specs.Record.{Record, working, decoded, failed}
 
 -- "the record, word and levels": the caller's own, lent to each call

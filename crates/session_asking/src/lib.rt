@@ -1,5 +1,5 @@
 // What opening a session and a step of it ask (specs/), and the questions of a step in their order.
-// Rests on `session_record`, `iterative`, `quantiser`, `packed_word` and `parity_check`. Document 01: "Refused for the session"; refusals 1 to 9.
+// Rests on `session_record`, `iterative_core`, `quantiser`, `packed_word` and `parity_check`. Document 01: "Refused for the session"; refusals 1 to 9.
 use answers::Checked;
 use answers::Refusal;
 use parity_check::Shape;
@@ -185,7 +185,7 @@ fn ask_lent(
     if wrong_lengths(received.len(), need, n, word.len(), levels.len()) {
         return Checked::Refused(Refusal::Buffer);
     }
-    let middle = iterative::middle_of(session.bits);
+    let middle = iterative_core::middle_of(session.bits);
     let spare = refused_when(packed_word::spare_set(received, n), Refusal::Spare);
     let beyond = refused_when(is_beyond(n, middle, word, levels), Refusal::Beyond);
     and_then(spare, beyond)

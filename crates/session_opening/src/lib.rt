@@ -12,7 +12,7 @@ ghost use Prim.Native.Nat.{_≤_};
 ghost use Rattle.answers.specs.Answers.{verdictOf};
 ghost use Rattle.parity_check.specs.Shapes.{matrixOf};
 ghost use Rattle.quantiser.specs.Settings.{choiceOf};
-ghost use Rattle.iterative.specs.Iterative.{iterativeVerdict};
+ghost use Rattle.iterative_core.specs.Iterative.{iterativeVerdict};
 ghost use Rattle.session_asking.specs.Asked.{lent};
 ghost use Rattle.session_asking.specs.Reading.{Openable};
 ghost use Rattle.session_asking.specs.Parts.{heldOf, samplesVerdict};

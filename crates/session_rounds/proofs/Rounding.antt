@@ -14,11 +14,11 @@ use Rattle.parity_check.proofs.Rows.{failing-cong}
 use Rattle.votes.specs.Tallies.{Tallied}
 use Rattle.soft_levels.specs.Levels.{unbiased, Moved, Biased, Restorable}
 use Rattle.soft_levels.proofs.Levels.{biased-le}
-use Rattle.iterative.specs.Rounds.{State, roundOf}
-use Rattle.iterative.specs.Stages.{Alike}
-use Rattle.iterative.specs.Runs.{stateOf, Holds}
-use Rattle.iterative.proofs.Holding.{holds-word, round-holds}
-use Rattle.iterative.proofs.Running.{holds-alike}
+use Rattle.soft_rounds.specs.Rounds.{State, roundOf}
+use Rattle.soft_rounds.specs.Stages.{Alike}
+use Rattle.soft_rounds.specs.Runs.{stateOf, Holds}
+use Rattle.soft_rounds.proofs.Holding.{holds-word, round-holds}
+use Rattle.soft_rounds.proofs.Running.{holds-alike}
 use Rattle.session_steps.specs.Leaving.{lentState, Lent, Turned}
 
 module _ (H : Matrix) (L : ℕ) (word : List ℕ) (levels : List ℤ) (p : Lent H L word levels) (zeros bits kept votes : List ℕ) (f : ℕ)

@@ -1,5 +1,5 @@
 // One step of a session, by value: the record in and out.
-// Rests on `session_steps`, `session_asking`, `session_record`, `iterative`, `soft_levels`, `packed_word`, `votes` and `syndrome`. Document 01: "Rounds one at a time".
+// Rests on `session_steps`, `session_asking`, `session_record`, `iterative_core`, `soft_levels`, `packed_word`, `votes` and `syndrome`. Document 01: "Rounds one at a time".
 use answers::Checked;
 use parity_check::Shape;
 use session_record::Session;
@@ -47,7 +47,7 @@ fn step_accepted(
     let bits = session.bits;
     let limit = session.limit;
     let k = session.k;
-    let middle = iterative::middle_of(bits);
+    let middle = iterative_core::middle_of(bits);
     let failing = round_on(shape, list, middle, word, levels);
     let changed = packed_word::differing(&word[..need], received);
     session_record::after_round(shape, bits, limit, k + 1, failing, changed)

@@ -21,7 +21,7 @@ use Rattle.parity_check.proofs.Rows.{failing-cong}
 use Rattle.quantiser.specs.Samples.{Choice, largest, levelOf, levelsOf, hardBit}
 use Rattle.quantiser.specs.Filling.{Fillable, Filled}
 use Rattle.quantiser.proofs.Ranges.{reads-fits, largest-most}
-use Rattle.iterative.specs.Iterative.{startOf, changedBits}
+use Rattle.iterative_core.specs.Iterative.{startOf, changedBits}
 use Rattle.session_record.specs.Record.{recordFor, stateAfter, outcomeIn}
 use Rattle.session_record.specs.Sessions.{recordOf}
 use Rattle.session_asking.specs.Asked.{Held, openVerdict, stepVerdict}

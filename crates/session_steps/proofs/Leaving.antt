@@ -7,8 +7,8 @@ use Rattle.answers.specs.Paper.{accepted, refused, refusal}
 use Rattle.parity_check.specs.Code.{Matrix}
 use Rattle.quantiser.specs.Samples.{Choice}
 use Rattle.quantiser.proofs.Ranges.{hard-bit-at}
-use Rattle.iterative.specs.Rounds.{State, levelAfter, roundOf}
-use Rattle.iterative.specs.Iterative.{startOf}
+use Rattle.soft_rounds.specs.Rounds.{State, levelAfter, roundOf}
+use Rattle.iterative_core.specs.Iterative.{startOf}
 use Rattle.soft_levels.proofs.Levels.{above-bit}
 use Rattle.session_asking.specs.Asked.{Held, openVerdict, stepVerdict}
 use Rattle.session_steps.specs.Steps.{openOf, stepOf}

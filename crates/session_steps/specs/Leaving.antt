@@ -20,8 +20,8 @@ use Rattle.packed_word.specs.Packed.{bitAt, bytesFor, pack}
 use Rattle.parity_check.specs.Code.{Matrix, failing}
 use Rattle.parity_check.specs.Reading.{Accepted}
 use Rattle.quantiser.specs.Samples.{Choice, largest, hardBit}
-use Rattle.iterative.specs.Rounds.{State, state, roundOf}
-use Rattle.iterative.specs.Iterative.{startOf}
+use Rattle.soft_rounds.specs.Rounds.{State, state, roundOf}
+use Rattle.iterative_core.specs.Iterative.{startOf}
 use Rattle.session_record.specs.Record.{Record, empty}
 use Rattle.session_record.specs.Sessions.{recordOf}
 use Rattle.session_asking.specs.Asked.{Held}

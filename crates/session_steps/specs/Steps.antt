@@ -15,8 +15,8 @@ use Rattle.answers.specs.Paper.{Verdict, accepted, refused, Said, report, after
 use Rattle.packed_word.specs.Packed.{bitAt, pack}
 use Rattle.parity_check.specs.Code.{Matrix, failing}
 use Rattle.quantiser.specs.Samples.{Choice, largest, hardBit}
-use Rattle.iterative.specs.Rounds.{State, state, roundOf}
-use Rattle.iterative.specs.Iterative.{startOf, changedBits}
+use Rattle.soft_rounds.specs.Rounds.{State, state, roundOf}
+use Rattle.iterative_core.specs.Iterative.{startOf, changedBits}
 use Rattle.session_record.specs.Record.{recordFor, stateAfter, outcomeIn}
 use Rattle.session_asking.specs.Asked.{Held, openVerdict, stepVerdict}
 
