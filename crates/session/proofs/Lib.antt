@@ -1,3 +1,4 @@
+pub use Rattle.session_steps.proofs.Leaving
 pub mod Buffers
 pub mod Calls
 pub mod Stepping
