@@ -15,7 +15,7 @@ run: tools decode
 # What `ffi` rests on is checked with the program, as `rt staticlib` would check it crate after crate.
 test: tools
 	rt fmt --check
-	rt check decode record_open record_step codes one_step
+	rt check decode record_open record_step codes one_step failing_checks
 	$(MAKE) --no-print-directory staticlib
 	cargo test --release --workspace
 	rt ci

@@ -50,7 +50,7 @@ pub extern "C" fn mlgd_failing(
     ensures { λ r. ⌜ r ≡ codeOf (failingOf (matrix n m rho gamma (now (list .entry))) (now (received .entry))) ⌝ }
 {
     let shape = Shape { n, m, rho, gamma };
-    counted_code(syndrome::failing(shape, list, received))
+    counted_code(failing_checks::failing(shape, list, received))
 }
 
 // One-step voting.

@@ -1,5 +1,5 @@
 // Iterative voting on a matrix, a setting and samples that are known to be accepted.
-// Rests on `soft_rounds`, `quantiser` and `packed_word`. Document 01: "Iterative voting".
+// Rests on `soft_rounds`, `flips`, `quantiser` and `packed_word`. Document 01: "Iterative voting".
 use answers::Report;
 use parity_check::Shape;
 use quantiser::Setting;
@@ -76,5 +76,5 @@ pub fn iterative_accepted(
     packed_word::pack_into(&bits, n, word);
     soft_levels::unbias(&kept, n, middle, levels);
     let changed = changed_bits(word, &hard, n);
-    votes::ended(stop.rounds, stop.failing, changed)
+    flips::ended(stop.rounds, stop.failing, changed)
 }

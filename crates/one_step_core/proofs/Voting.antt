@@ -12,7 +12,8 @@ use Rattle.parity_check.proofs.Rows.{failing-cong}
 use Rattle.majority_logic.specs.Voting.{flipWhen}
 use Rattle.majority_logic.specs.OneStep.{stepWord, stepRounds}
 use Rattle.majority_logic.proofs.Correction.{flipped-by, stepWord-flipped, stepWord-bit}
-use Rattle.votes.specs.Tallies.{Tallied, Voted}
+use Rattle.votes.specs.Tallies.{Tallied}
+use Rattle.flips.specs.Flips.{Voted}
 use Rattle.one_step_core.specs.Stepped.{Stepped}
 
 -- the rounds of a word with and without failing checks

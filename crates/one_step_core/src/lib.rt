@@ -1,5 +1,5 @@
 // One-step voting on a matrix and a received word that are known to be accepted.
-// Rests on `votes`, `syndrome`, `packed_word` and `parity_check`. Document 01: "One-step voting".
+// Rests on `votes`, `flips`, `syndrome`, `packed_word` and `parity_check`. Document 01: "One-step voting".
 use answers::Report;
 use parity_check::Shape;
 ghost use Rattle.answers.specs.Answers.{reportOf};
@@ -28,7 +28,7 @@ fn vote(shape: Shape, list: &[u16], bits: &mut [u8; 1023]) -> Tally
             failing: 0,
         };
     }
-    votes::flip_all(shape, &votes, bits);
+    flips::flip_all(shape, &votes, bits);
     let after = syndrome::failing_count(shape, list, bits);
     Tally {
         rounds: 1,
@@ -48,5 +48,5 @@ pub fn one_step_accepted(shape: Shape, list: &[u16], received: &[u8], word: &mut
     let v = vote(shape, list, &mut bits);
     packed_word::pack_into(&bits, n, word);
     let changed = packed_word::differing(&word[..need], received);
-    votes::ended(v.rounds, v.failing, changed)
+    flips::ended(v.rounds, v.failing, changed)
 }

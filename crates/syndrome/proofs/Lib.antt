@@ -1,4 +1,3 @@
 pub mod Parity
 pub mod Listing
-pub mod Verdicts
 pub mod Unpacking

@@ -1,22 +1,20 @@
--- What the votes' array holds, and what the vote does to the bits. (Document 01, "One-step voting".)
+-- What the votes' array holds. (Document 01, "One-step voting".)
 --   among l from count j      == how often j stands among count numbers of l from a place on
 --   ofRows l rho rows t j     == how often the first t of the listed rows have column j
 --   Parts l rho rows t        == these rows are parts of l
 --   Room f v                  == f more at every place of the array v fits its bytes
 --   More f old new            == the array with f more at every place
 --   Tallied H z v f           == v is the votes on the word z, and f the number of failing checks
---   Voted n gamma v old new   == the first n bits after the vote by v
 -- Assumes nothing.
 use mathlib.Core.Path.{_≡_}
 use mathlib.Core.List.{List}
 use Prim.Native.Nat.{ℕ, _+_, _*_, _<_, _≤_}
-use lib.Dec.{ltb}
 use lib.ListN.{length}
 use Rattle.counting.specs.Sum.{sum, same}
 use Rattle.packed_word.specs.Steps.{at}
 use Rattle.parity_check.specs.Code.{Matrix, failing}
 use Rattle.syndrome.specs.Places.{Part}
-use Rattle.majority_logic.specs.Voting.{votes, flipWhen}
+use Rattle.majority_logic.specs.Voting.{votes}
 
 -- a number counted in a part of a list
 unfoldable pub among : List ℕ → ℕ → ℕ → ℕ → ℕ
@@ -47,9 +45,3 @@ pub record Tallied (H : Matrix) (z : ℕ → ℕ) (v : List ℕ) (f : ℕ) : Typ
   pub long : length v ≡ 1023
   pub each : (j : ℕ) → at v j ≡ votes H z j
   pub count : f ≡ failing H z
-
--- "each bit for which more than half of its γ checks fail is flipped"; the cells beyond stay
-pub record Voted (n gamma : ℕ) (v old new : List ℕ) : Type 0 where
-  pub long : length new ≡ 1023
-  pub each : (j : ℕ) → j < n → at new j ≡ flipWhen (ltb gamma (2 * at v j)) (at old j)
-  pub rest : (j : ℕ) → n ≤ j → at new j ≡ at old j

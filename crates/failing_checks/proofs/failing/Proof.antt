@@ -1,12 +1,12 @@
--- `syndrome::failing`: the matrix check's refusal, else the count on the accepted matrix.
+-- `failing_checks::failing`: the matrix check's refusal, else the count on the accepted matrix.
 use borrow.Author.Needs.{needs}
 use mathlib.Core.Path.{sym, ap, _∙_}
 use Rattle.answers.specs.Answers.{verdictOf, numberOf, placeOf}
 use Rattle.parity_check.specs.Shapes.{matrixOf}
 use Rattle.parity_check.proofs.Reading.{accepted-is}
-use Rattle.syndrome.proofs.Verdicts.{failing-matrix}
-use Rattle.syndrome.proofs.failing.Statement.{statement}
-use Rattle.syndrome.proofs.failing.Tie as tie
+use Rattle.failing_checks.proofs.Verdicts.{failing-matrix}
+use Rattle.failing_checks.proofs.failing.Statement.{statement}
+use Rattle.failing_checks.proofs.failing.Tie as tie
 
 check-requires : tie.Need-check-requires
 check-requires c κs = search needs

@@ -1,4 +1,4 @@
--- `syndrome::failing_accepted`: each way out is what the chain of refusals says, and the count is that of the unpacked word.
+-- `failing_checks::failing_accepted`: each way out is what the chain of refusals says, and the count is that of the unpacked word.
 use borrow.Author.Needs.{needs}
 use Prim.Native.Nat.{ℕ}
 use mathlib.Core.Path.{sym, ap, _∙_}
@@ -7,10 +7,10 @@ use lib.ListN.{replicate}
 use Rattle.answers.specs.Paper.{report}
 use Rattle.parity_check.specs.Shapes.{matrixOf}
 use Rattle.parity_check.proofs.Reading.{is-accepted}
-use Rattle.syndrome.proofs.Verdicts.{failing-buffer, failing-spare, failing-says}
+use Rattle.failing_checks.proofs.Verdicts.{failing-buffer, failing-spare, failing-says}
 use Rattle.syndrome.proofs.Unpacking.{unpacked-word, unpacked-failing}
-use Rattle.syndrome.proofs.failing_accepted.Statement.{statement}
-use Rattle.syndrome.proofs.failing_accepted.Tie as tie
+use Rattle.failing_checks.proofs.failing_accepted.Statement.{statement}
+use Rattle.failing_checks.proofs.failing_accepted.Tie as tie
 
 cast-n : tie.Need-cast-n
 cast-n c = search needs

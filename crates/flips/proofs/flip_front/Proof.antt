@@ -1,12 +1,12 @@
--- `votes::flip_front`. The loop's invariant: the first `j` bits are voted on, the others are as they were.
+-- `flips::flip_front`. The loop's invariant: the first `j` bits are voted on, the others are as they were.
 use Prim.Native.Nat.{_-_, _≤_}
 use mathlib.Core.Path.{sym, _∙_}
 use native.Mathlib.Nat.{le-antisymm, le-refl}
 use native.Mathlib.Omega.{arith}
-use Rattle.votes.specs.Tallies.{Voted}
-use Rattle.votes.proofs.Flipping.{voted-none, voted-step}
-use Rattle.votes.proofs.flip_front.Statement.{statement}
-use Rattle.votes.proofs.flip_front.Tie as tie
+use Rattle.flips.specs.Flips.{Voted}
+use Rattle.flips.proofs.Flipping.{voted-none, voted-step}
+use Rattle.flips.proofs.flip_front.Statement.{statement}
+use Rattle.flips.proofs.flip_front.Tie as tie
 
 abbrev Inv-loop : tie.InvT-loop
 Inv-loop votes n gamma bits₀ j₀ bits j = (j ≤ n) × Voted j gamma votes bits₀ bits

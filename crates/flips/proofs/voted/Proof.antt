@@ -1,10 +1,10 @@
--- `votes::voted`: the test as a byte turns the bit over.
+-- `flips::voted`: the test as a byte turns the bit over.
 use borrow.Author.Needs.{needs}
 use Prim.Native.Nat.{_*_}
 use lib.Dec.{ltb}
-use Rattle.votes.proofs.Flipping.{flip-bit}
-use Rattle.votes.proofs.voted.Statement.{statement}
-use Rattle.votes.proofs.voted.Tie as tie
+use Rattle.flips.proofs.Flipping.{flip-bit}
+use Rattle.flips.proofs.voted.Statement.{statement}
+use Rattle.flips.proofs.voted.Tie as tie
 
 mul-turns : tie.Need-mul-turns
 mul-turns c = search needs

@@ -1,7 +1,7 @@
--- `votes::ended` meets its contract: the outcome by whether a check fails. Assumes nothing.
+-- `flips::ended` meets its contract: the outcome by whether a check fails. Assumes nothing.
 use borrow.Author.Tests.{eq-eqb, ne-eqb}
-use Rattle.votes.proofs.ended.Statement.{statement}
-use Rattle.votes.proofs.ended.Tie as tie
+use Rattle.flips.proofs.ended.Statement.{statement}
+use Rattle.flips.proofs.ended.Tie as tie
 
 returns : tie.Need-returns
 returns c = simp (eq-eqb _ _ (c .if1 .taken))

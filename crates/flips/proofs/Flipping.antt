@@ -12,7 +12,7 @@ use mir.Val.{boolByte}
 use Rattle.counting.proofs.Writing.{stored}
 use Rattle.packed_word.specs.Steps.{at}
 use Rattle.majority_logic.specs.Voting.{flipWhen}
-use Rattle.votes.specs.Tallies.{Voted}
+use Rattle.flips.specs.Flips.{Voted}
 
 -- of a bit, `^` with the test turns it over where the test passes
 pub flip-bit : (t : Bool) (b : ℕ) → b < 2 → bitXor b (boolByte t) ≡ flipWhen t b

@@ -1,0 +1,2 @@
+-- What the contracts of `flips` cite.
+pub mod Flips
