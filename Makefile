@@ -1,8 +1,8 @@
 # The shed-link block decoder. `make run` shows it working, `make test` checks everything, `make bench` measures it.
-.PHONY: run test bench fuzz audit prove staticlib decode tools
+.PHONY: run test bench fuzz audit prove staticlib reference decode tools
 
-# Checks of crates and must-fail edits that run at a time: more than the processors, since those of a batch wait for its longest.
-export RT_JOBS ?= 4
+# Checks of crates and must-fail edits that run at a time, each in about 1 GB: more than the processors, since those of a batch wait for its longest.
+export RT_JOBS ?= 8
 
 N ?= 20
 SETTING ?= bits 8 limit 30 level-step 0.1
@@ -16,7 +16,7 @@ run: tools decode
 test: tools
 	rt fmt --check
 	rt check decode record_open record_step codes one_step failing_checks
-	$(MAKE) --no-print-directory staticlib
+	$(MAKE) --no-print-directory -j2 staticlib reference
 	cargo test --release --workspace
 	rt ci
 
@@ -34,6 +34,10 @@ prove: tools
 # The exported functions as a static library for Rust and C.
 staticlib:
 	rt staticlib ffi
+
+# The Rust that needs no archive: built while the archive is made.
+reference:
+	cargo build --release --quiet -p reference -p generator -p pack
 
 # The program, proved and linked: target/bin/decode.
 decode:
