@@ -1,17 +1,14 @@
 -- The whole call's answer, by the tests that lead to it. Assumes nothing.
 use mathlib.Core.Path.{_≡_, refl, _∙_}
-use mathlib.Core.Bool.{true, false, not, _||_}
+use mathlib.Core.Bool.{true, false}
 use mathlib.Core.List.{List}
-use Prim.Native.Nat.{ℕ, _≤_, _<_}
+use Prim.Native.Nat.{ℕ, _<_}
 use native.Mathlib.Omega.{arith}
-use borrow.Author.Tests.{eqb-true, ltb-false, not-false, lt-ltb, le-ltb}
-use lib.Dec.{eqb, ltb}
+use borrow.Author.Tests.{lt-ltb, le-ltb}
 use lib.IntN.{ℤ}
 use lib.Ieee.{Float}
 use lib.ListN.{length}
-use Rattle.counting.proofs.Searches.{or-left, or-right}
 use Rattle.answers.specs.Paper.{accepted, refused, Said, refusal}
-use Rattle.packed_word.specs.Packed.{bytesFor}
 use Rattle.parity_check.specs.Code.{Matrix}
 use Rattle.parity_check.specs.Check.{checkOf}
 use Rattle.parity_check.specs.Reading.{Accepted}
@@ -19,15 +16,9 @@ use Rattle.parity_check.proofs.Reading.{is-accepted}
 use Rattle.quantiser.specs.Samples.{Choice, settingFits, firstNotFinite}
 use Rattle.iterative_core.specs.Iterative.{iterativeVerdict, iterativeOf}
 use Rattle.iterative_core.specs.Calls.{wrongLoan, Lent, Decoded, Answered}
-
--- loans that are as they should be
-pub loan-room : (n s b l : ℕ) → wrongLoan n s b l ≡ false → (s ≡ n) × (bytesFor n ≤ b) × (n ≤ l)
-loan-room n s b l e =
-    let r = or-right (not (eqb s n)) (ltb b (bytesFor n) || ltb l n) e in (
-      eqb-true s n (not-false (eqb s n) (or-left (not (eqb s n)) (ltb b (bytesFor n) || ltb l n) e)),
-      ltb-false b (bytesFor n) (or-left (ltb b (bytesFor n)) (ltb l n) r),
-      ltb-false l n (or-right (ltb b (bytesFor n)) (ltb l n) r),
-    )
+use Rattle.iterative_core.proofs.Loans.{loan-room}
+use Rattle.iterative_rule.specs.Claims.{IterativeRule, AmpleLimit}
+use Rattle.iterative_rule.proofs.FlippingRule.{iterative-rule, ample-limit}
 
 module _ (H : Matrix) (S : Choice) (xs : List Float) (w : List ℕ) (ls : List ℤ) where
   -- a refusal keeps both buffers
@@ -66,3 +57,13 @@ module _ (H : Matrix) (S : Choice) (xs : List Float) (w : List ℕ) (ls : List �
         answered-decoded said w′ ls′ q d =
             let v : iterativeVerdict H S xs (length w) (length ls) ≡ accepted = rw (is-accepted H a, fits, room, le-ltb (firstNotFinite xs) (length xs) (omega arith)) refl in
             record { answer = d .answer ∙ rw v refl; word = d .word ∙ rw v refl; levels = d .levels ∙ rw v refl }
+
+-- what is answered obeys the flipping rule for iterative voting, and a limit of L / 2 + 1 is ample
+pub answered-rule : {H : Matrix} {S : Choice} {xs : List Float} {said : Said} {w w′ : List ℕ} {ls ls′ : List ℤ} → Answered H S xs said w w′ ls ls′
+    → Answered H S xs said w w′ ls ls′ × (IterativeRule H S xs w w′ ls said × AmpleLimit H S xs w w′ ls said)
+answered-rule {H} {S} {xs} {said} {w} {w′} {ls} a = (a, (rule, ample-limit H S xs w w′ ls said rule))
+  where
+    rule : IterativeRule H S xs w w′ ls said
+    rule c e h time =
+        let r = iterative-rule H S xs w ls c e h time in
+        record { begun = r .begun; soon = r .soon; says = a .answer ∙ r .says; word = a .word ∙ r .word }

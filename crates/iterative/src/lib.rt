@@ -1,5 +1,5 @@
 // Reliability-based iterative majority-logic decoding of samples: the whole call.
-// Rests on `iterative_core`, `column_index`, `quantiser` and `parity_check`. Document 01: "Iterative voting"; refusals 1 to 8.
+// Rests on `iterative_core`, `iterative_rule`, `column_index`, `quantiser` and `parity_check`. Document 01: "Iterative voting"; refusals 1 to 8.
 use answers::Answer;
 use answers::Checked;
 use answers::Refusal;
@@ -15,6 +15,7 @@ ghost use Rattle.parity_check.specs.Reading.{Accepted};
 ghost use Rattle.parity_check.specs.Shapes.{matrixOf};
 ghost use Rattle.quantiser.specs.Settings.{choiceOf};
 ghost use Rattle.iterative_core.specs.Calls.{wrongLoan, Lent, Decoded, Answered};
+ghost use Rattle.iterative_rule.specs.Claims.{IterativeRule, AmpleLimit};
 
 // The core with an index made for this call.
 fn with_index(
@@ -82,7 +83,9 @@ pub fn iterative(
     word: &mut [u8],
     levels: &mut [i8],
 ) -> Answer
-    ensures { λ r. ⌜ Answered (matrixOf shape (now (list .entry))) (choiceOf setting) (now (samples .entry)) (saidOf r) (now (word .entry)) (now (word .exit)) (now (levels .entry)) (now (levels .exit)) ⌝ }
+    ensures answer { λ r. ⌜ Answered (matrixOf shape (now (list .entry))) (choiceOf setting) (now (samples .entry)) (saidOf r) (now (word .entry)) (now (word .exit)) (now (levels .entry)) (now (levels .exit)) ⌝ }
+    ensures flipping_rule { λ r. ⌜ IterativeRule (matrixOf shape (now (list .entry))) (choiceOf setting) (now (samples .entry)) (now (word .entry)) (now (word .exit)) (now (levels .entry)) (saidOf r) ⌝ }
+    ensures ample_limit { λ r. ⌜ AmpleLimit (matrixOf shape (now (list .entry))) (choiceOf setting) (now (samples .entry)) (now (word .entry)) (now (word .exit)) (now (levels .entry)) (saidOf r) ⌝ }
 {
     match parity_check::check(shape, list) {
         Checked::Accepted => on_accepted(shape, list, setting, samples, word, levels),

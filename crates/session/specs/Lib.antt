@@ -2,3 +2,4 @@
 pub use Rattle.session_steps.specs.Steps
 pub use Rattle.session_steps.specs.Leaving
 pub mod Stepping
+pub mod SteppingRule

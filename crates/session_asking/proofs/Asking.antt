@@ -3,7 +3,6 @@ use mathlib.Core.Path.{_≡_, refl, sym, _∙_}
 use mathlib.Core.Bool.{Bool, true, false, not, _&&_, _||_}
 use mathlib.Core.List.{List}
 use Prim.Native.Nat.{ℕ, _+_, _≤_, _<_}
-use native.Mathlib.Nat.{le-antisymm}
 use native.Mathlib.Omega.{arith}
 use borrow.Author.Tests.{ltb-false, leb-false, eqb-true, not-false, lt-ltb, le-ltb, lt-leb, eq-eqb}
 use lib.Dec.{T, eqb, leb, ltb}
@@ -12,8 +11,9 @@ use lib.Ieee.{Float, nan}
 use lib.Ieee.Scale.{finite}
 use lib.ListN.{length, getD}
 use Rattle.counting.specs.Search.{any}
-use Rattle.counting.proofs.Searches.{never, and-left, and-right, or-left, or-right, any-step, any-none, any-at, any-clear, first-le, first-none}
-use Rattle.answers.specs.Paper.{Verdict, accepted, refused, refuseIf, refuseWhen, andThen}
+use Rattle.counting.proofs.Searches.{never, and-left, and-right, or-left, or-right, any-step, any-none, any-at, any-clear, first-none}
+use Rattle.answers.specs.Paper.{Verdict, accepted, refuseWhen, andThen}
+use Rattle.answers.proofs.Verdicts.{passed, passed-on}
 use Rattle.packed_word.specs.Packed.{bytesFor, spareSet}
 use Rattle.parity_check.specs.Code.{Matrix}
 use Rattle.parity_check.specs.Check.{checkOf}
@@ -22,23 +22,11 @@ use Rattle.parity_check.proofs.Reading.{accepted-is, is-accepted}
 use Rattle.quantiser.specs.Samples.{Choice, mostBits, largest, notFinite, firstNotFinite}
 use Rattle.quantiser.proofs.Ranges.{fits-reads, reads-fits, all-finite}
 use Rattle.iterative_core.specs.Iterative.{iterativeVerdict}
+use Rattle.iterative_core.proofs.Loans.{verdict-lent}
 use Rattle.session_record.specs.Record.{Record, working, decoded, failed}
 use Rattle.session_asking.specs.Asked.{Held, unusable, ended, otherSizes, wrongBuffers, beyond, openVerdict, stepVerdict}
 use Rattle.session_asking.specs.Reading.{Openable, Usable, Steppable}
 use Rattle.session_asking.specs.Parts.{far, knownVerdict}
-
--- ---- one link of a chain of refusals
-
-no-refusal : {k x : ℕ} → refused k x ≡ accepted → ⊥
-no-refusal e = let z : _≡_ {A = ℕ} 0 1 = cc in omega arith
-
-passed : (t : Bool) (k x : ℕ) (v : Verdict) → refuseIf t k x v ≡ accepted → (t ≡ false) × (v ≡ accepted)
-passed true k x v e = absurd (no-refusal e)
-passed false k x v e = (refl, e)
-
-passed-on : (v w : Verdict) → andThen v w ≡ accepted → (v ≡ accepted) × (w ≡ accepted)
-passed-on accepted w e = (refl, e)
-passed-on (refused k x) w e = absurd (no-refusal e)
 
 -- ---- a step
 
@@ -139,21 +127,16 @@ finite-first xs h = first-none (notFinite xs) (length xs) (λ j l. passes (finit
 
 module _ (H : Matrix) (S : Choice) (xs : List Float) (h : Held) where
   pub accepted-open : openVerdict H S xs h ≡ accepted → Openable H S xs h
-  unfolding openVerdict iterativeVerdict
+  unfolding openVerdict
   accepted-open e =
-      let p5 = passed-on _ _ e in
-      let p6 = passed _ 6 0 _ (p5 .1) in
-      let p7 = passed _ 7 0 _ (p6 .1) in
-      let p8 = passed _ 8 _ _ (p7 .1) in
-      let none : length xs ≤ firstNotFinite xs = ltb-false (firstNotFinite xs) (length xs) (p8 .0) in
-      let buffers = or-right (not (eqb (length xs) (H .n))) _ (p7 .0) in
+      let l = verdict-lent H S xs (h .word) (h .levels) e in
       record {
-        matrix = accepted-is H (p5 .0);
-        setting = fits-reads S (not-false _ (p6 .0));
-        samples = eqb-true (length xs) (H .n) (not-false _ (or-left _ _ (p7 .0)));
-        bytes = ltb-false (length (h .word)) (bytesFor (H .n)) (or-left _ _ buffers);
-        room = ltb-false (length (h .levels)) (H .n) (or-right (ltb (length (h .word)) (bytesFor (H .n))) _ buffers);
-        finite-all = all-finite xs (le-antisymm (first-le (notFinite xs) (length xs)) none);
+        matrix = l .matrix;
+        setting = fits-reads S (l .setting);
+        samples = l .samples;
+        bytes = l .room-word;
+        room = l .room-levels;
+        finite-all = all-finite xs (l .finite);
       }
 
   pub open-accepted : Openable H S xs h → openVerdict H S xs h ≡ accepted

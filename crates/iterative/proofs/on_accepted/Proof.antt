@@ -10,7 +10,8 @@ use Rattle.answers.specs.Paper.{refusal}
 use Rattle.quantiser.specs.Samples.{settingFits, notFinite, firstNotFinite}
 use Rattle.quantiser.specs.Settings.{choiceOf}
 use Rattle.iterative_core.specs.Calls.{wrongLoan}
-use Rattle.iterative.proofs.Answering.{loan-room, refused-setting, refused-loan, refused-sample, loan-lent, answered-decoded}
+use Rattle.iterative_core.proofs.Loans.{loan-room}
+use Rattle.iterative.proofs.Answering.{refused-setting, refused-loan, refused-sample, loan-lent, answered-decoded}
 use Rattle.iterative.proofs.on_accepted.Statement.{statement}
 use Rattle.iterative.proofs.on_accepted.Tie as tie
 

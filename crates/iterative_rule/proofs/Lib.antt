@@ -1,0 +1,4 @@
+pub mod Sides
+pub mod Approach
+pub mod Ends
+pub mod FlippingRule

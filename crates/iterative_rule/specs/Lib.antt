@@ -1,0 +1,2 @@
+-- The flipping rule for iterative voting.
+pub mod Claims

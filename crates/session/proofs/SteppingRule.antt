@@ -1,0 +1,29 @@
+-- The flipping rule for iterative voting in single rounds: stepping ends as the whole call does, and that obeys the rule. Assumes nothing.
+use mathlib.Core.Path.{sym, ap, _∙_}
+use mathlib.Core.List.{List}
+use Prim.Native.Nat.{ℕ}
+use native.Mathlib.Omega.{arith}
+use lib.Ieee.{Float}
+use Rattle.answers.specs.Paper.{report}
+use Rattle.parity_check.specs.Code.{Matrix}
+use Rattle.quantiser.specs.Samples.{Choice}
+use Rattle.iterative_rule.specs.Claims.{wrongBits}
+use Rattle.iterative_rule.proofs.FlippingRule.{iterative-rule}
+use Rattle.session_asking.specs.Asked.{Held, openVerdict}
+use Rattle.session.specs.SteppingRule.{SteppingRule}
+use Rattle.session.proofs.Stepping.{stepping-is-whole, steps-rounds}
+
+pub stepping-rule : (H : Matrix) (S : Choice) (xs : List Float) (h : Held) → SteppingRule H S xs h
+unfolding openVerdict
+stepping-rule H S xs h c e near time =
+    let r = iterative-rule H S xs (h .word) (h .levels) c e near time in
+    let a = stepping-is-whole H S xs h e in
+    let k = steps-rounds H S xs h e in
+    record {
+      steps = a .steps;
+      begun = λ wrong. omega (arith, r .begun (omega arith));
+      soon = omega (arith, r .soon);
+      accepts = a .accepts;
+      says = a .says ∙ r .says ∙ ap (λ (x : ℕ). report 0 x 0 (wrongBits H c xs)) (sym k);
+      word = a .word ∙ rw e at (r .word);
+    }

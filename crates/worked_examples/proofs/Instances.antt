@@ -1,0 +1,74 @@
+-- The flipping rules at code A: their conditions can be met, and what the one for iterative voting then says.
+--   within-half    == P2's received word is the codeword 2E changed within the half
+--   readme-block   == with a limit of 43 iterative voting recovers the zero word from the README's block
+-- Assumes nothing.
+use mathlib.Core.Path.{_≡_, refl}
+use mathlib.Core.List.{List, [], _∷_}
+use mathlib.Core.Logic.{inl}
+use Prim.Native.Nat.{ℕ, zero, suc, _<_}
+use native.Mathlib.Omega.{arith}
+use lib.IntN.{pos}
+use lib.Ieee.{ofBits, ofFields, odd, lt, le}
+use Rattle.counting.specs.Sum.{sum, same, differ}
+use Rattle.counting.specs.Search.{any, first}
+use Rattle.answers.specs.Paper.{accepted}
+use Rattle.packed_word.specs.Packed.{bitAt, spareSet, Bytes, distance}
+use Rattle.parity_check.specs.Code.{entry, has, weight, common, fails, failing}
+use Rattle.parity_check.specs.Check.{sizesFit, badEntry, badWeight, overlapping, listOf, checkOf}
+use Rattle.quantiser.specs.Samples.{stepFits, settingFits, hardOf, hardBit, notFinite}
+use Rattle.majority_logic.specs.Claims.{IsWord, Sent, flips, WithinHalf}
+use Rattle.iterative.specs.Iterative.{iterativeVerdict}
+use Rattle.iterative_rule.specs.Claims.{wrongBits, SamplesWithinHalf}
+use Rattle.iterative_rule.proofs.FlippingRule.{iterative-rule}
+use Rattle.worked_examples.specs.Calls.{made}
+use Rattle.worked_examples.specs.Table.{codeA, seven, sevenLevels}
+use Rattle.worked_examples.specs.Bounds.{readmeSetting, readmeBlock, ReadmeBlock}
+
+-- ---- words of code A
+
+-- one byte is a list of bytes
+one-byte : (x : ℕ) → x < 256 → Bytes (x ∷ [])
+unfolding Bytes
+one-byte x l zero = l
+one-byte x l (suc q) = omega arith
+
+sent-2e : Sent codeA (0x2e ∷ [])
+unfolding codeA failing fails has entry bitAt spareSet any sum same
+sent-2e = record { word = record { bytes = one-byte 0x2e (omega arith); long = refl; spare = refl }; clean = refl }
+
+sent-00 : Sent codeA (0 ∷ [])
+unfolding codeA failing fails has entry bitAt spareSet any sum same
+sent-00 = record { word = record { bytes = one-byte 0 (omega arith); long = refl; spare = refl }; clean = refl }
+
+received-ae : IsWord 7 (0xae ∷ [])
+unfolding bitAt spareSet any
+received-ae = record { bytes = one-byte 0xae (omega arith); long = refl; spare = refl }
+
+one-flip : flips codeA (0x2e ∷ []) (0xae ∷ []) ≡ 1
+unfolding codeA distance bitAt sum differ
+one-flip = refl
+
+-- P2: the codeword 2E with bit 0 flipped
+pub within-half : WithinHalf codeA (0x2e ∷ []) (0xae ∷ [])
+unfolding codeA
+within-half = record { sent = sent-2e; word = received-ae; few = rw one-flip (omega arith) }
+
+-- ---- the README's block
+
+one-wrong : wrongBits codeA (0 ∷ []) readmeBlock ≡ 1
+unfolding codeA readmeBlock seven distance bitAt hardBit hardOf ofBits ofFields odd lt sum differ
+one-wrong = refl
+
+readme-near : SamplesWithinHalf codeA (readmeSetting 43) (0 ∷ []) readmeBlock
+unfolding codeA
+readme-near = record { sent = sent-00; few = rw one-wrong (omega arith); firm = inl (rw one-wrong (omega arith)) }
+
+-- no refusal applies to the call
+readme-accepted : iterativeVerdict codeA (readmeSetting 43) readmeBlock 1 7 ≡ accepted
+unfolding codeA readmeSetting readmeBlock seven iterativeVerdict settingFits stepFits notFinite ofBits ofFields odd lt le checkOf listOf sizesFit badEntry badWeight overlapping common weight has entry any first sum same
+readme-accepted = refl
+
+pub readme-block : ReadmeBlock 43
+unfolding codeA readmeSetting made
+readme-block =
+    iterative-rule codeA (readmeSetting 43) readmeBlock (0xff ∷ []) (sevenLevels (pos 9) (pos 9)) (0 ∷ []) readme-accepted readme-near (rw one-wrong (omega arith))
