@@ -5,7 +5,7 @@
 export RT_JOBS ?= 8
 
 N ?= 20
-SETTING ?= bits 8 limit 30 level-step 0.1
+SETTING ?= bits 8 limit 64 level-step 0.1
 
 # Packs the example block set, decodes it, and prints the program's lines.
 run: tools decode

@@ -6,7 +6,7 @@ use crate::{alist, noise, settings, stream, Codewords, Random};
 use reference::Setting;
 
 /// The setting as the packing tool reads it.
-pub const SETTING: &str = "bits 8 limit 30 level-step 0.1";
+pub const SETTING: &str = "bits 8 limit 64 level-step 0.1";
 
 /// The noise of each block: none, some, and one block that is past help.
 pub const DEVIATIONS: [f64; 12] = [
@@ -18,7 +18,7 @@ pub fn code() -> Code {
 }
 
 pub fn setting() -> Setting {
-    settings::level_step(8, 30, 0.1)
+    settings::level_step(8, 64, 0.1)
 }
 
 /// The codewords sent, and the samples as they stand in the file: three decimals.

@@ -1,5 +1,6 @@
 //! What each program of the gate must write is what the reference prints for its stored input.
 
+use generator::example;
 use program::assert_same;
 use std::fs;
 use std::path::{Path, PathBuf};
@@ -25,9 +26,14 @@ fn every_stored_output_is_the_reference_s() {
     assert!(seen >= 8, "{seen} programs");
 }
 
+/// The example's input and output are those of examples/.
 #[test]
-fn the_example_s_output_is_the_stored_one() {
+fn the_example_is_the_stored_one() {
     let expected = fs::read(root().join("examples/expected.txt")).expect("examples/expected.txt");
-    let stored = fs::read(root().join("crates/decode_examples/stdout")).expect("stdout");
-    assert_eq!(stored, expected);
+    let folder = root().join("crates/decode_examples");
+    assert_eq!(fs::read(folder.join("stdout")).expect("stdout"), expected);
+    assert_eq!(
+        fs::read(folder.join("stdin")).expect("stdin"),
+        example::input()
+    );
 }

@@ -1,0 +1,520 @@
+//! The flipping rule for iterative voting: hard bits that differ from a codeword in at most
+//! gamma / 2 places come back to it within a known number of rounds, however strong the wrong
+//! samples and however weak the right ones. The reference's opinion is asked as well.
+
+use differential::{cases, random, Lent, Subject};
+use ffi_face::Packed;
+use generator::codes::{self, Code};
+use generator::{patterns, settings, Codewords, Random};
+use reference::{hard_bit, largest_level, level, pack, Setting};
+
+const FAILED: u64 = 1;
+const WORKING: u64 = 2;
+
+/// A limit that is enough for every code and every number of wrong bits: L / 2 + 1.
+fn enough(bits: u16) -> usize {
+    largest_level(bits) as usize / 2 + 1
+}
+
+fn rounds(answer: Packed) -> usize {
+    (answer.0 >> 32) as usize % 256
+}
+
+fn with_limit(setting: &Setting, limit: usize) -> Setting {
+    Setting {
+        limit: limit as u16,
+        ..*setting
+    }
+}
+
+/// A setting with any step. Its limit is chosen with the block.
+fn some_setting(bits: u16, kind: u16, random: &mut Random) -> Setting {
+    let step = settings::some_step(random);
+    Setting {
+        kind,
+        ..settings::level_step(bits, 0, step)
+    }
+}
+
+/// Every width with both kinds of step.
+fn all_settings(random: &mut Random) -> Vec<Setting> {
+    (2..=8)
+        .flat_map(|bits| [0, 1].map(|kind| some_setting(bits, kind, random)))
+        .collect()
+}
+
+/// A sample with this hard bit and a level of this magnitude.
+fn sample(setting: &Setting, bit: bool, magnitude: i32, random: &mut Random) -> f32 {
+    let largest = largest_level(setting.bits);
+    let unit = match setting.kind {
+        0 => setting.step,
+        _ => setting.step / largest as f32,
+    };
+    let size = match magnitude {
+        0 if !bit && random.once_in(2) => *random.pick(&[0.0, -0.0]),
+        0 => *random.pick(&[f32::from_bits(1), unit / 4.0, (unit / 2.0).next_down()]),
+        _ if magnitude == largest && random.once_in(2) => f32::MAX,
+        _ => (magnitude as f32 + 0.8 * random.unit() as f32 - 0.4) * unit,
+    };
+    let (sample, signed) = match bit {
+        true => (size, magnitude),
+        false => (-size, -magnitude),
+    };
+    let made = (hard_bit(sample), level(setting, sample));
+    assert_eq!(made, (bit, signed), "{sample:e}, {setting:?}");
+    sample
+}
+
+/// How strong a sample is: its level is the least that the rule allows, the largest, or any.
+#[derive(Clone, Copy)]
+enum Strength {
+    Least,
+    Most,
+    Any,
+}
+
+impl Strength {
+    fn magnitude(self, least: i32, largest: i32, random: &mut Random) -> i32 {
+        match self {
+            Strength::Least => least,
+            Strength::Most => largest,
+            Strength::Any => least + random.below((largest - least) as usize + 1) as i32,
+        }
+    }
+}
+
+/// The strength of the wrong samples and that of the right ones.
+type Strengths = (Strength, Strength);
+
+const WORST: Strengths = (Strength::Most, Strength::Least);
+
+const STRENGTHS: [Strengths; 4] = [
+    WORST,
+    (Strength::Most, Strength::Any),
+    (Strength::Any, Strength::Least),
+    (Strength::Any, Strength::Any),
+];
+
+/// A code with its codewords.
+struct Tried {
+    code: Code,
+    subject: Subject,
+    codewords: Codewords,
+}
+
+impl Tried {
+    fn new(code: Code, random: &mut Random) -> Tried {
+        Tried {
+            subject: Subject::new(&code.matrix, random),
+            codewords: Codewords::of(&code.matrix),
+            code,
+        }
+    }
+
+    fn n(&self) -> usize {
+        usize::from(self.code.matrix.n)
+    }
+
+    fn half(&self) -> usize {
+        usize::from(self.code.matrix.gamma / 2)
+    }
+
+    fn change(&self, sent: Vec<bool>, wrong: Vec<usize>) -> Change<'_> {
+        let tried = self;
+        Change { tried, sent, wrong }
+    }
+
+    /// So many wrong places, by chance and those that come nearest to a wrong vote, each time of
+    /// another codeword.
+    fn changes(&self, size: usize, random: &mut Random) -> Vec<Change<'_>> {
+        let mut patterns = patterns::against_one_bit(&self.code, size, random);
+        patterns.push(random.different(size, self.n()));
+        let change = |wrong| self.change(self.codewords.random(random), wrong);
+        patterns.into_iter().map(change).collect()
+    }
+
+    /// Blocks with every number of wrong places and every strength.
+    fn blocks(&self, setting: &Setting, random: &mut Random) -> Vec<(Change<'_>, Vec<f32>)> {
+        let mut blocks = Vec::new();
+        for size in 0..=self.half() {
+            for strengths in STRENGTHS {
+                for change in self.changes(size, random) {
+                    let samples = change.of(setting, strengths, random);
+                    blocks.push((change, samples));
+                }
+            }
+        }
+        blocks
+    }
+
+    /// One block by chance, most often with half of gamma wrong or with the worst strength.
+    fn some_block(&self, setting: &Setting, random: &mut Random) -> (Change<'_>, Vec<f32>) {
+        let size = random.below(2 * self.half() + 1).min(self.half());
+        let mut changes = self.changes(size, random);
+        let change = changes.swap_remove(random.below(changes.len()));
+        let strengths = match random.below(2) {
+            0 => WORST,
+            _ => *random.pick(&STRENGTHS),
+        };
+        let samples = change.of(setting, strengths, random);
+        (change, samples)
+    }
+}
+
+/// A codeword, and the places at which the hard bits differ from it.
+struct Change<'a> {
+    tried: &'a Tried,
+    sent: Vec<bool>,
+    wrong: Vec<usize>,
+}
+
+impl Change<'_> {
+    fn gamma(&self) -> usize {
+        usize::from(self.tried.code.matrix.gamma)
+    }
+
+    /// The rounds after which all bits are right at the latest: L / delta + 1, delta being what
+    /// a round moves the level of a wrong bit by at least.
+    fn bound(&self, bits: u16) -> usize {
+        let delta = self.gamma() - 2 * self.wrong.len() + 2;
+        match self.wrong.len() {
+            0 => 0,
+            _ => largest_level(bits) as usize / delta + 1,
+        }
+    }
+
+    /// The least magnitude of each level that the rule allows: if half of gamma is wrong, a right
+    /// 1 has a level other than 0.
+    fn least(&self) -> Vec<i32> {
+        let tie = 2 * self.wrong.len() == self.gamma();
+        let right_one = |j: usize| self.sent[j] && !self.wrong.contains(&j);
+        let places = 0..self.sent.len();
+        places.map(|j| i32::from(tie && right_one(j))).collect()
+    }
+
+    /// Samples with levels of these magnitudes.
+    fn samples(&self, setting: &Setting, magnitudes: &[i32], random: &mut Random) -> Vec<f32> {
+        patterns::flipped(&self.sent, &self.wrong)
+            .into_iter()
+            .zip(magnitudes)
+            .map(|(bit, &magnitude)| sample(setting, bit, magnitude, random))
+            .collect()
+    }
+
+    /// Samples of these strengths.
+    fn of(&self, setting: &Setting, strengths: Strengths, random: &mut Random) -> Vec<f32> {
+        let (of_wrong, of_right) = strengths;
+        let largest = largest_level(setting.bits);
+        let mut magnitudes = self.least();
+        for (j, magnitude) in magnitudes.iter_mut().enumerate() {
+            let strength = match self.wrong.contains(&j) {
+                true => of_wrong,
+                false => of_right,
+            };
+            *magnitude = strength.magnitude(*magnitude, largest, random);
+        }
+        self.samples(setting, &magnitudes, random)
+    }
+
+    /// What the rule says of an answer and of the word left with it. Gives the rounds.
+    fn obeyed(&self, setting: &Setting, samples: &[f32], answer: Packed, word: &[u8]) -> usize {
+        let (sent, wrong, name) = (pack(&self.sent), &self.wrong, &self.tried.code.name);
+        let call = || {
+            format!(
+                "{answer:?}, {name}, sent {sent:02x?}, wrong {wrong:?}, {setting:?}, {samples:?}"
+            )
+        };
+        let rounds = rounds(answer);
+        let expected = Packed::new(0, rounds, 0, wrong.len());
+        assert_eq!(answer, expected, "{}", call());
+        assert!(rounds <= self.bound(setting.bits), "{}", call());
+        assert_eq!(rounds == 0, wrong.is_empty(), "{}", call());
+        assert_eq!(word[..sent.len()], sent, "{}", call());
+        rounds
+    }
+
+    /// The rule for the whole call with this limit. Gives the rounds.
+    fn comes_back(
+        &self,
+        setting: &Setting,
+        limit: usize,
+        samples: &[f32],
+        random: &mut Random,
+    ) -> usize {
+        assert!(self.bound(setting.bits) <= limit);
+        let setting = with_limit(setting, limit);
+        let left = self.tried.subject.block(&setting, samples, random);
+        self.obeyed(&setting, samples, left.answer, &left.word)
+    }
+
+    /// The same with no round to spare.
+    fn comes_back_in_time(&self, setting: &Setting, samples: &[f32], random: &mut Random) -> usize {
+        self.comes_back(setting, self.bound(setting.bits), samples, random)
+    }
+
+    /// The same for an opening and its steps.
+    fn steps_back_in_time(&self, setting: &Setting, samples: &[f32], random: &mut Random) -> usize {
+        let subject = &self.tried.subject;
+        let setting = with_limit(setting, self.bound(setting.bits));
+        let mut lent = Lent::by_chance(subject, random);
+        let mut answer = subject.open(&mut lent, &setting, samples, random);
+        let received = lent.word[..subject.needed()].to_vec();
+        let mut steps = 0;
+        while answer.place() == WORKING {
+            answer = subject.step(&mut lent, &received, random);
+            steps += 1;
+        }
+        assert_eq!(rounds(answer), steps);
+        self.obeyed(&setting, samples, answer, &lent.word)
+    }
+
+    /// Whether the block takes all the rounds of the bound: one round less fails exactly then.
+    fn takes_all(&self, setting: &Setting, samples: &[f32], random: &mut Random) -> bool {
+        let bound = self.bound(setting.bits);
+        let rounds_taken = self.comes_back(setting, bound, samples, random);
+        let less = with_limit(setting, bound - 1);
+        let answer = self.tried.subject.block(&less, samples, random).answer;
+        let failed = answer.place() == FAILED;
+        assert_eq!(failed, rounds_taken == bound);
+        assert_eq!(rounds(answer), rounds_taken.min(bound - 1));
+        failed
+    }
+}
+
+/// The choice of this number among all magnitudes from the least to the largest.
+fn choice(mut number: usize, least: &[i32], largest: i32) -> Vec<i32> {
+    let magnitude = |&least: &i32| {
+        let choices = (largest - least) as usize + 1;
+        let digit = number % choices;
+        number /= choices;
+        least + digit as i32
+    };
+    least.iter().map(magnitude).collect()
+}
+
+/// Every choice of levels, or `most` of them by chance if there are more. Gives their number.
+fn levels_of(change: &Change, bits: u16, most: usize, random: &mut Random) -> usize {
+    let setting = settings::level_step(bits, 0, 0.5);
+    let (largest, least) = (largest_level(bits), change.least());
+    let choices = |&least: &i32| (largest - least) as usize + 1;
+    let all: usize = least.iter().map(choices).product();
+    for at in 0..all.min(most) {
+        let number = if all <= most { at } else { random.below(all) };
+        let magnitudes = choice(number, &least, largest);
+        let samples = change.samples(&setting, &magnitudes, random);
+        change.comes_back_in_time(&setting, &samples, random);
+    }
+    all.min(most)
+}
+
+/// The same for the first so many codewords and all wrong places.
+fn levels_of_code(code: Code, bits: u16, words: usize, most: usize, random: &mut Random) -> usize {
+    let tried = Tried::new(code, random);
+    let mut blocks = 0;
+    for sent in tried.codewords.some(16, random).into_iter().take(words) {
+        for size in 0..=tried.half() {
+            for wrong in patterns::of_size(size, tried.n()) {
+                let change = tried.change(sent.clone(), wrong);
+                blocks += levels_of(&change, bits, most, random);
+            }
+        }
+    }
+    blocks
+}
+
+/// Width 2 whole. Width 3 on the zero word of code A and one of the seven others, which differ only
+/// in the order of the bits, and some levels of code B.
+#[test]
+fn all_levels_of_code_a_and_b() {
+    let mut random = random(1500);
+    let (a, b, all) = (codes::code_a, codes::code_b, usize::MAX);
+    let blocks = levels_of_code(a(), 2, 8, all, &mut random);
+    assert_eq!(blocks, 8 * (1 + 7) * 128);
+    // One wrong place is half of gamma: each right 1 has one level instead of two. The codewords
+    // have no ones, four (nine of them) or six (six of them).
+    let blocks = levels_of_code(b(), 2, 16, all, &mut random);
+    let with_four = 9 * (4 * 64 + 5 * 32);
+    let with_six = 6 * (6 * 16 + 3 * 8);
+    assert_eq!(blocks, 16 * 512 + 9 * 512 + with_four + with_six);
+    let blocks = levels_of_code(a(), 3, 2, all, &mut random);
+    assert_eq!(blocks, 2 * (1 + 7) * 16_384);
+    let most = cases(100);
+    let blocks = levels_of_code(b(), 3, 16, most, &mut random);
+    assert_eq!(blocks, 16 * (1 + 9) * most);
+}
+
+fn small_and_three_more() -> Vec<Code> {
+    let mut codes = codes::small();
+    codes.push(codes::tanner155());
+    codes.push(codes::projective_prime(7));
+    codes.push(codes::euclidean(3));
+    codes
+}
+
+/// Blocks by chance.
+fn some_come_back(tried: &Tried, setting: &Setting, times: usize, random: &mut Random) {
+    for _ in 0..times {
+        let (change, samples) = tried.some_block(setting, random);
+        change.comes_back_in_time(setting, &samples, random);
+    }
+}
+
+/// Some of the large codes, from the largest column weight to the smallest.
+fn some_large() -> Vec<Code> {
+    vec![
+        codes::eg1023(),
+        codes::qc961(),
+        codes::projective_prime(31),
+        codes::array_code(31, 6, 31),
+        codes::array_code(341, 3, 3),
+        codes::euclidean(2).copies(68),
+        codes::complete_graph(33),
+        codes::cycle(1023),
+        codes::single_row(31).copies(33),
+    ]
+}
+
+/// All blocks of small codes, some of medium ones and fewer of large ones, Tanner155, EG1023 and
+/// QC961 among them.
+#[test]
+fn hostile_levels_on_codes() {
+    let mut random = random(1501);
+    for code in codes::small() {
+        let tried = Tried::new(code, &mut random);
+        for setting in all_settings(&mut random) {
+            for (change, samples) in tried.blocks(&setting, &mut random) {
+                change.comes_back_in_time(&setting, &samples, &mut random);
+            }
+        }
+    }
+    for code in codes::medium() {
+        let tried = Tried::new(code, &mut random);
+        for setting in all_settings(&mut random) {
+            some_come_back(&tried, &setting, cases(2), &mut random);
+        }
+    }
+    for code in some_large() {
+        let tried = Tried::new(code, &mut random);
+        for bits in 2..=8 {
+            let setting = some_setting(bits, random.below(2) as u16, &mut random);
+            some_come_back(&tried, &setting, cases(1), &mut random);
+        }
+    }
+}
+
+/// How many of the worst blocks with so many wrong places take all the rounds of the bound. A
+/// bound of one round is left out, as no block is decoded without a round.
+fn taking_all(tried: &Tried, size: usize, random: &mut Random) -> usize {
+    let mut taking = 0;
+    for setting in all_settings(random) {
+        for change in tried.changes(size, random) {
+            if change.bound(setting.bits) > 1 {
+                let samples = change.of(&setting, WORST, random);
+                taking += usize::from(change.takes_all(&setting, &samples, random));
+            }
+        }
+    }
+    taking
+}
+
+/// With one wrong place, and with two in one check, some block of every code takes all rounds.
+#[test]
+fn a_limit_one_smaller_does_not_do() {
+    let mut random = random(1502);
+    for code in small_and_three_more() {
+        let tried = Tried::new(code, &mut random);
+        for size in 1..=tried.half().min(2) {
+            let taking = taking_all(&tried, size, &mut random);
+            assert!(taking > 0, "{}, {size} wrong", tried.code.name);
+        }
+    }
+}
+
+/// Code A, width 8, the zero word with bit 0 wrong: L 127, delta 3, bound 43.
+#[test]
+fn code_a_needs_43_rounds() {
+    let mut random = random(1503);
+    let tried = Tried::new(codes::code_a(), &mut random);
+    let change = tried.change(vec![false; 7], vec![0]);
+    let setting = settings::level_step(8, 0, 0.1);
+    assert_eq!(change.bound(8), 43);
+    // Level 100 takes 34 rounds, the largest level all of them.
+    for (first, rounds) in [(10.0, 34), (13.0, 43), (f32::MAX, 43)] {
+        let samples = [first, -1.0, -1.0, -1.0, -1.0, -1.0, -1.0];
+        let taken = change.comes_back(&setting, 43, &samples, &mut random);
+        assert_eq!(taken, rounds);
+        let taking_all = change.takes_all(&setting, &samples, &mut random);
+        assert_eq!(taking_all, rounds == 43);
+    }
+}
+
+/// The limit L / 2 + 1 and the largest limit; some blocks take L / 2 + 1 rounds.
+#[test]
+fn half_of_l_and_one_is_always_enough() {
+    let mut random = random(1504);
+    let mut most = [0; 7];
+    for code in small_and_three_more() {
+        let tried = Tried::new(code, &mut random);
+        for setting in all_settings(&mut random) {
+            for (change, samples) in tried.blocks(&setting, &mut random) {
+                let limit = *random.pick(&[enough(setting.bits), 255]);
+                let rounds = change.comes_back(&setting, limit, &samples, &mut random);
+                let most = &mut most[usize::from(setting.bits) - 2];
+                *most = rounds.max(*most);
+            }
+        }
+    }
+    assert_eq!([2, 3, 4, 5, 6, 7, 8].map(enough), [1, 2, 4, 8, 16, 32, 64]);
+    assert_eq!([2, 3, 4, 5, 6, 7, 8].map(enough), most);
+}
+
+/// A block by chance, stepped and whole.
+fn steps_back(tried: &Tried, setting: &Setting, random: &mut Random) {
+    let (change, samples) = tried.some_block(setting, random);
+    let steps = change.steps_back_in_time(setting, &samples, random);
+    let rounds = change.comes_back_in_time(setting, &samples, random);
+    assert_eq!(steps, rounds);
+}
+
+#[test]
+fn stepping_obeys_the_rule() {
+    let mut random = random(1505);
+    for code in small_and_three_more() {
+        let tried = Tried::new(code, &mut random);
+        for setting in all_settings(&mut random) {
+            for _ in 0..cases(2) {
+                steps_back(&tried, &setting, &mut random);
+            }
+        }
+    }
+    let tried = Tried::new(codes::eg1023(), &mut random);
+    for bits in 2..=4 {
+        for kind in [0, 1] {
+            let setting = some_setting(bits, kind, &mut random);
+            steps_back(&tried, &setting, &mut random);
+        }
+    }
+}
+
+/// P10's code, E0 sent, bit 0 wrong, which is half of gamma: a right 1 of level 0 is lost to a
+/// tie, and the word ends at 00. With level 1 it comes back.
+#[test]
+fn level_zero_matters() {
+    let mut random = random(1506);
+    let tried = Tried::new(codes::triangle(), &mut random);
+    let change = tried.change(vec![true; 3], vec![0]);
+    let setting = settings::level_step(3, 5, 0.5);
+    assert_eq!(change.bound(3), 2);
+
+    assert_eq!(level(&setting, 0.1), 0);
+    let left = tried
+        .subject
+        .block(&setting, &[-1.5, 0.1, 0.5], &mut random);
+    assert_eq!(left.answer, Packed::new(0, 2, 0, 2));
+    assert_eq!(left.word[0], 0x00);
+
+    assert_eq!(level(&setting, 0.25), 1);
+    let samples = [-1.5, 0.25, 0.5];
+    let rounds = change.comes_back_in_time(&setting, &samples, &mut random);
+    assert_eq!(rounds, 2);
+}
