@@ -3,6 +3,7 @@ pub mod Ascending
 pub mod Searches
 pub mod Deciding
 pub mod Writing
+pub mod Joined
 pub mod Integers
 pub mod Stores
 pub mod Digits

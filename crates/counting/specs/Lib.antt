@@ -2,5 +2,6 @@
 pub mod Sum
 pub mod Search
 pub mod Lists
+pub mod Joined
 pub mod Integers
 pub mod Digits

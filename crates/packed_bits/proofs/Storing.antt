@@ -83,30 +83,30 @@ abbrev pub eight : ℕ → (ℕ → ℕ) → ℕ → ℕ → ℕ
 eight n z q i = ended n z (8 * q + i)
 
 -- the number with bits f 0 .. f (i - 1), the highest first
-unfoldable pub joined : (ℕ → ℕ) → ℕ → ℕ
-joined f zero = 0
-joined f (suc i) = 2 * joined f i + f i
+unfoldable pub binaryOf : (ℕ → ℕ) → ℕ → ℕ
+binaryOf f zero = 0
+binaryOf f (suc i) = 2 * binaryOf f i + f i
 
-pub joined-none : (f : ℕ → ℕ) → 0 ≡ joined f 0
-unfolding joined
-joined-none f = refl
+pub binary-none : (f : ℕ → ℕ) → 0 ≡ binaryOf f 0
+unfolding binaryOf
+binary-none f = refl
 
-pub joined-more : (f : ℕ → ℕ) (i b x r : ℕ) → b ≡ joined f i → x ≡ f i → r ≡ 2 * b + x → r ≡ joined f (i + 1)
-unfolding joined
-joined-more f i b x r p q e = rw (add-one i) (omega arith)
+pub binary-more : (f : ℕ → ℕ) (i b x r : ℕ) → b ≡ binaryOf f i → x ≡ f i → r ≡ 2 * b + x → r ≡ binaryOf f (i + 1)
+unfolding binaryOf
+binary-more f i b x r p q e = rw (add-one i) (omega arith)
 
-pub joined-all : (n : ℕ) (z : ℕ → ℕ) (q : ℕ) → joined (eight n z q) 8 ≡ packedByte n z q
-unfolding joined packedByte sum
-joined-all n z q = omega arith
+pub binary-all : (n : ℕ) (z : ℕ → ℕ) (q : ℕ) → binaryOf (eight n z q) 8 ≡ packedByte n z q
+unfolding binaryOf packedByte sum
+binary-all n z q = omega arith
 
-joined-small : (f : ℕ → ℕ) (i : ℕ) → ((k : ℕ) → f k < 2) → joined f i < 2 ^ i
-unfolding joined
-joined-small f zero h = omega arith
-joined-small f (suc i) h = rw (pow-suc 2 i) (omega (arith, joined-small f i h, h i))
+binary-small : (f : ℕ → ℕ) (i : ℕ) → ((k : ℕ) → f k < 2) → binaryOf f i < 2 ^ i
+unfolding binaryOf
+binary-small f zero h = omega arith
+binary-small f (suc i) h = rw (pow-suc 2 i) (omega (arith, binary-small f i h, h i))
 
 -- seven bits leave room for one more
-pub joined-room : (f : ℕ → ℕ) (i : ℕ) → ((k : ℕ) → f k < 2) → i < 8 → joined f i < 128
-joined-room f i h l = omega (arith, joined-small f i h, pow-mono {i = i} {j = 7} (omega arith))
+pub binary-room : (f : ℕ → ℕ) (i : ℕ) → ((k : ℕ) → f k < 2) → i < 8 → binaryOf f i < 128
+binary-room f i h l = omega (arith, binary-small f i h, pow-mono {i = i} {j = 7} (omega arith))
 
 -- one byte more is written
 pub over-next : (f : ℕ → ℕ) (old new : List ℕ) (q x : ℕ) → q < length old → x ≡ f q → new ≡ over (listed q f) old → set new q x ≡ over (listed (q + 1) f) old

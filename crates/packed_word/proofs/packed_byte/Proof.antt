@@ -4,18 +4,18 @@ use Prim.Native.Nat.{ℕ, _+_, _*_, _-_, _≤_}
 use native.Mathlib.Omega.{arith}
 use Rattle.packed_bits.specs.Steps.{at}
 use Rattle.packed_bits.proofs.Packing.{ended-bit, ended-small}
-use Rattle.packed_bits.proofs.Storing.{eight, joined, joined-none, joined-more, joined-all, joined-room}
+use Rattle.packed_bits.proofs.Storing.{eight, binaryOf, binary-none, binary-more, binary-all, binary-room}
 use Rattle.packed_word.proofs.packed_byte.Statement.{statement}
 use Rattle.packed_word.proofs.packed_byte.Tie as tie
 
 abbrev Inv-loop : tie.InvT-loop
-Inv-loop bits n q b₀ i₀ b i = (i ≤ 8) × (b ≡ joined (eight n (at bits) q) i)
+Inv-loop bits n q b₀ i₀ b i = (i ≤ 8) × (b ≡ binaryOf (eight n (at bits) q) i)
 
 abbrev μ-loop : tie.MeasureT-loop
 μ-loop bits n q b₀ i₀ b i = 8 - i
 
 loop-holds : tie.Need-loop-holds Inv-loop μ-loop
-loop-holds c = (omega arith, joined-none (eight (c .args .n) (at (c .args .bits .now)) (c .args .q)))
+loop-holds c = (omega arith, binary-none (eight (c .args .n) (at (c .args .bits .now)) (c .args .q)))
 
 mul-bit-or-zero : tie.Need-mul-bit-or-zero Inv-loop μ-loop
 mul-bit-or-zero c = omega arith
@@ -31,7 +31,7 @@ with-bit-requires c κs =
     let s = c .before .before .before in
     let l = c .before .before .loop in
     let z : ℕ → ℕ = at (s .args .bits .now) in (
-      omega (arith, joined-room (eight (s .args .n) z (s .args .q)) (l .i) (λ k. ended-bit (s .args .n) z (s .pre .2) (8 * s .args .q + k)) (omega arith)),
+      omega (arith, binary-room (eight (s .args .n) z (s .args .q)) (l .i) (λ k. ended-bit (s .args .n) z (s .pre .2) (8 * s .args .q + k)) (omega arith)),
       ended-small (s .args .n) z (s .pre .2) (c .bit-or-zero .result) _ (c .bit-or-zero .ensures),
     )
 
@@ -45,14 +45,14 @@ loop-again : tie.Need-loop-again Inv-loop μ-loop
 loop-again c =
     let a = c .before .before .before .before .args in
     let l = c .before .before .before .loop in
-    (omega arith, joined-more (eight (a .n) (at (a .bits .now)) (a .q)) (l .i) (l .b) (c .before .bit-or-zero .result) (c .with-bit .result) (l .inv .1) (c .before .bit-or-zero .ensures) (c .with-bit .ensures))
+    (omega arith, binary-more (eight (a .n) (at (a .bits .now)) (a .q)) (l .i) (l .b) (c .before .bit-or-zero .result) (c .with-bit .result) (l .inv .1) (c .before .bit-or-zero .ensures) (c .with-bit .ensures))
 
 returns : tie.Need-returns Inv-loop μ-loop
 returns c =
     let a = c .before .before .args in
     let l = c .before .loop in
     let e : l .i ≡ 8 = omega arith in
-    l .inv .1 ∙ ap (joined (eight (a .n) (at (a .bits .now)) (a .q))) e ∙ joined-all (a .n) (at (a .bits .now)) (a .q)
+    l .inv .1 ∙ ap (binaryOf (eight (a .n) (at (a .bits .now)) (a .q))) e ∙ binary-all (a .n) (at (a .bits .now)) (a .q)
 
 pub packed-byte-spec : {M : Type 1} → statement M
 packed-byte-spec =
