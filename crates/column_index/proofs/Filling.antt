@@ -16,6 +16,7 @@ use Rattle.packed_word.specs.Steps.{at}
 use Rattle.parity_check.specs.Code.{Matrix, entry, has, weight}
 use Rattle.parity_check.specs.Reading.{Accepted}
 use Rattle.parity_check.proofs.Rows.{few-entries, in-list, weight-outside}
+use Rattle.matrix.proofs.Weights.{weight-equal}
 use Rattle.votes.specs.Tallies.{among}
 use Rattle.column_index.specs.Index.{Indexed, Filled, before, within, placed, placing}
 
@@ -66,7 +67,7 @@ module _ (H : Matrix) (a : Accepted H) where
   weight-most : (j : ℕ) → weight H j ≤ H .gamma
   weight-most j =
       elim (decLt j (H .n))
-      [ yes l ↦ omega (arith, a .weights j l) | no g ↦ omega (arith, weight-outside H (a .rows) j (omega arith)) ]
+      [ yes l ↦ omega (arith, weight-equal H a (a .sizes .product) j l) | no g ↦ omega (arith, weight-outside H (a .rows) j (omega arith)) ]
 
   module _ (i k : ℕ) (row : i < H .m) where
     -- so no part of the index runs over
@@ -216,9 +217,9 @@ module _ (H : Matrix) (a : Accepted H) where
   filled-all counts x f =
       record {
         long = f .long;
-        below = λ j q l h. f .below j q (omega (arith, f .count j, a .weights j l));
+        below = λ j q l h. f .below j q (omega (arith, f .count j, weight-equal H a (a .sizes .product) j l));
         each = λ j i l h.
-            ap (λ (c : ℕ). among x (j * H .gamma) c i) (sym (a .weights j l) ∙ omega (arith, f .count j))
+            ap (λ (c : ℕ). among x (j * H .gamma) c i) (sym (weight-equal H a (a .sizes .product) j l) ∙ omega (arith, f .count j))
             ∙ f .each j i
             ∙ omega (arith, sum-pick (H .m) (λ r. has H r j) i h, sum-cong (H .m) {f = λ r. same i r * has H r j} {g = λ r. same r i * has H r j} (λ r g. ap (λ (y : ℕ). y * has H r j) (same-sym i r)));
       }

@@ -20,6 +20,7 @@ use Rattle.answers.specs.Paper.{accepted, Said, report, written}
 use Rattle.packed_word.specs.Packed.{bitAt}
 use Rattle.packed_word.proofs.Distances.{distance-cong, distance-sym}
 use Rattle.parity_check.specs.Code.{Matrix, weight}
+use Rattle.matrix.proofs.Weights.{weight-least}
 use Rattle.quantiser.specs.Samples.{Choice, largest, levelOf, hardBit}
 use Rattle.quantiser.proofs.Ranges.{fits-reads, largest-some, level-bound, hard-bit-at}
 use Rattle.majority_logic.proofs.FlippingRule.{sent-codeword, pack-is}
@@ -65,7 +66,7 @@ module _ (H : Matrix) (S : Choice) (xs : List Float) (w : List ℕ) (ls : List �
       }
 
   heavy : (j : ℕ) → j < H .n → H .gamma ≤ weight H j
-  heavy j l = omega (arith, lent .matrix .weights j l)
+  heavy = weight-least H (lent .matrix)
 
   some : 0 < L
   some = largest-some (S .bits) (fits-reads S (lent .setting) .least)

@@ -23,7 +23,8 @@ use Rattle.packed_word.specs.Packed.{distance}
 use Rattle.packed_word.proofs.Distances.{distance-cong, distance-sym, distance-agree, distance-apart}
 use Rattle.parity_check.specs.Code.{Matrix, has, weight, Word, fails, failing, Codeword}
 use Rattle.parity_check.specs.Reading.{Rows, Accepted}
-use Rattle.parity_check.proofs.Rows.{has-le, clean-at, fails-bit, failing-cong, weight-small}
+use Rattle.parity_check.proofs.Rows.{has-le, clean-at, fails-bit, failing-cong}
+use Rattle.matrix.proofs.Weights.{weight-least, weight-small, weight-equal}
 use Rattle.majority_logic.specs.Voting.{votes, flipWhen, flipped}
 use Rattle.majority_logic.specs.OneStep.{stepWord, stepRounds, oneStepReport}
 use Rattle.majority_logic.proofs.Votes.{votes-kept, votes-changed}
@@ -84,7 +85,7 @@ flipped-bit H z zw j h =
 -- what a program tests, as the weight of every column is gamma
 pub flipped-by : (H : Matrix) → Accepted H → (z : ℕ → ℕ) (j : ℕ) → j < H .n → flipped H z j ≡ flipWhen (ltb (H .gamma) (2 * votes H z j)) (z j)
 unfolding flipped
-flipped-by H a z j h = rw (a .weights j h)
+flipped-by H a z j h = rw (weight-equal H a (a .sizes .product) j h)
 
 -- one-step voting writes the word after the vote: that no vote is taken where no check fails changes no bit
 pub stepWord-flipped : (H : Matrix) (z : ℕ → ℕ) → stepWord H z ≡ flipped H z
@@ -161,4 +162,4 @@ module _ (H : Matrix) (r : Rows H) where
 -- so they differ in more than gamma columns
 pub far-gamma : (H : Matrix) → Accepted H → (c c′ : ℕ → ℕ) → Codeword H c → Codeword H c′ → 0 < distance (H .n) c c′ → H .gamma < distance (H .n) c c′
 far-gamma H a c c′ cw cw′ h =
-    let p = far H (a .rows) c c′ cw cw′ h in omega (arith, p .2, a .weights (p .0) (p .1))
+    let p = far H (a .rows) c c′ cw cw′ h in omega (arith, p .2, weight-least H a (p .0) (p .1))

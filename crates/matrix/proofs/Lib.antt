@@ -1,4 +1,5 @@
 pub mod Rows
+pub mod Weights
 pub mod Reading
 pub mod Ordered
 pub mod Tallies

@@ -2,7 +2,6 @@
 use mathlib.Core.Path.{_≡_, sym, ap, _∙_}
 use Prim.Native.Nat.{ℕ, _+_, _*_, _%_, _≤_, _<_}
 use native.Mathlib.Nat.{mul-le-mul}
-use native.Mathlib.Decide.{decLt}
 use native.Mathlib.Omega.{arith}
 use lib.Arith.{digits-lt}
 use lib.ListN.{length, getD}
@@ -10,7 +9,7 @@ use Rattle.counting.specs.Sum.{sum, same}
 use Rattle.counting.proofs.Sums.{sum-zero, same-ne, sum-cong, sum-term, sum-pick, sum-flat, sum-swap, sum-mul-right, same-sym}
 use Rattle.counting.proofs.Ascending.{ascending-lt, ascending-once}
 use Rattle.matrix.specs.Code.{Matrix, entry, has, weight, common, fails, failing}
-use Rattle.matrix.specs.Reading.{Rows, Sizes, Accepted}
+use Rattle.matrix.specs.Reading.{Rows, Sizes}
 
 -- a column's weight counts it in the list
 pub weight-flat : (H : Matrix) (j : ℕ) → weight H j ≡ sum (H .m * H .rho) (λ p. same (getD (H .list) p 0) j)
@@ -80,9 +79,3 @@ module _ (H : Matrix) (r : Rows H) where
   pub weight-outside : (j : ℕ) → H .n ≤ j → weight H j ≡ 0
   unfolding weight
   weight-outside j l = sum-zero (H .m) (λ i h. has-outside i j h l)
-
--- no column is in more than 32 rows of an accepted matrix, also none that the matrix does not have
-pub weight-small : (H : Matrix) → Accepted H → (j : ℕ) → weight H j ≤ 32
-weight-small H a j =
-    elim (decLt j (H .n))
-    [ yes l ↦ omega (arith, a .weights j l) | no g ↦ omega (arith, weight-outside H (a .rows) j (omega arith)) ]

@@ -12,6 +12,7 @@ use Rattle.counting.proofs.Integers.{sumℤ-cong, sumℤ-difference, sumℤ-bou
 use Rattle.parity_check.specs.Code.{Matrix, entry, has, weight, fails}
 use Rattle.parity_check.specs.Reading.{Rows, Accepted}
 use Rattle.parity_check.proofs.Rows.{has-le}
+use Rattle.matrix.proofs.Weights.{weight-equal}
 use Rattle.majority_logic.specs.Voting.{votes}
 use Rattle.soft_rounds.specs.Rounds.{others, sign, extrinsic}
 
@@ -95,7 +96,7 @@ extrinsic-weight H z j =
     sumℤ-bound (H .m) (λ i. has H i j) (λ i. pos (has H i j) *ℤ sign (others H z i j % 2)) (λ i l. abs-part (has H i j) (others H z i j % 2))
 
 pub extrinsic-bound : (H : Matrix) → Accepted H → (z : ℕ → ℕ) (j : ℕ) → j < H .n → natAbs (extrinsic H z j) ≤ H .gamma
-extrinsic-bound H a z j l = omega (arith, extrinsic-weight H z j, a .weights j l)
+extrinsic-bound H a z j l = omega (arith, extrinsic-weight H z j, weight-equal H a (a .sizes .product) j l)
 
 -- ---- what E reads
 

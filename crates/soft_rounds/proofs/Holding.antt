@@ -9,6 +9,7 @@ use Rattle.counting.specs.Integers.{cut}
 use Rattle.packed_word.specs.Steps.{at}
 use Rattle.parity_check.specs.Code.{Matrix, Word}
 use Rattle.parity_check.specs.Reading.{Accepted}
+use Rattle.matrix.proofs.Weights.{weight-equal}
 use Rattle.majority_logic.specs.Voting.{votes}
 use Rattle.majority_logic.proofs.Agreement.{votes-cong}
 use Rattle.soft_rounds.specs.Rounds.{State, levelAfter, roundOf}
@@ -32,12 +33,12 @@ module _ (H : Matrix) (a : Accepted H) (L : ℕ) (s : State) where
       elim (ℕ-discrete (s .z j) 0) [
         | yes e ↦
             next-zero (H .gamma) L (votes H (s .z) j) (s .z j) (s .R j) e h
-            ∙ ap (λ (x : ℕ). biased L (cut L (s .R j +ℤ subℕ (2 * votes H (s .z) j) x))) (sym (a .weights j l))
+            ∙ ap (λ (x : ℕ). biased L (cut L (s .R j +ℤ subℕ (2 * votes H (s .z) j) x))) (sym (weight-equal H a (a .sizes .product) j l))
             ∙ ap (λ (x : ℤ). biased L (cut L (s .R j +ℤ x))) (sym (extrinsic-zero H (a .rows) (s .z) j e))
         | no ne ↦
             let e : s .z j ≡ 1 = omega arith in
             next-one (H .gamma) L (votes H (s .z) j) (s .z j) (s .R j) e h
-            ∙ ap (λ (x : ℕ). biased L (cut L (s .R j +ℤ subℕ x (2 * votes H (s .z) j)))) (sym (a .weights j l))
+            ∙ ap (λ (x : ℕ). biased L (cut L (s .R j +ℤ subℕ x (2 * votes H (s .z) j)))) (sym (weight-equal H a (a .sizes .product) j l))
             ∙ ap (λ (x : ℤ). biased L (cut L (s .R j +ℤ x))) (sym (extrinsic-one H (a .rows) (s .z) j e))
       ]
 
