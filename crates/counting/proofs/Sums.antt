@@ -147,6 +147,10 @@ pub differ-ne : (a b : ℕ) → (a ≡ b → ⊥) → differ a b ≡ 1
 unfolding differ
 differ-ne a b h = ap (λ (t : Bool). flag (not t)) (ne-eqb a b h)
 
+pub differ-le : (a b : ℕ) → differ a b ≤ 1
+differ-le a b =
+    elim (ℕ-discrete a b) [ yes e ↦ omega (arith, differ-eq a b e) | no ne ↦ omega (arith, differ-ne a b ne) ]
+
 pub differ-zero : (a b : ℕ) → differ a b ≡ 0 → a ≡ b
 differ-zero a b h = elim (ℕ-discrete a b) [ yes e ↦ e | no ne ↦ omega (arith, differ-ne a b ne) ]
 

@@ -6,15 +6,14 @@ use Prim.Native.Nat.{ℕ, _≤_}
 use native.Mathlib.Omega.{arith}
 use lib.Dec.{eqb}
 use lib.Ieee.{Float}
-use Rattle.counting.proofs.Sums.{sum-bound}
 use Rattle.counting.proofs.Searches.{cases}
 use Rattle.answers.specs.Paper.{Verdict, accepted, refused, Said, andThen, after}
 use Rattle.packed_word.specs.Packed.{bitAt}
 use Rattle.packed_word.proofs.Distances.{distance-le}
-use Rattle.parity_check.specs.Code.{Matrix, fails, failing}
+use Rattle.parity_check.specs.Code.{Matrix, failing}
 use Rattle.parity_check.specs.Check.{checkOf}
 use Rattle.parity_check.specs.Reading.{Accepted}
-use Rattle.parity_check.proofs.Rows.{fails-bit}
+use Rattle.matrix.proofs.Linear.{failing-le}
 use Rattle.parity_check.proofs.Reading.{accepted-is}
 use Rattle.syndrome.specs.Failing.{failingVerdict, failingOf}
 use Rattle.majority_logic.specs.OneStep.{stepWord, stepRounds, oneStepReport, oneStepVerdict, oneStepOf}
@@ -23,11 +22,6 @@ use Rattle.quantiser.proofs.Ranges.{fits-reads}
 use Rattle.iterative.specs.Iterative.{startOf, changedBits, endFrom, reportAt, iterativeVerdict, iterativeOf}
 use Rattle.iterative.proofs.Ends.{rounds-within}
 use Rattle.codes.specs.Codes.{Small}
-
--- no more checks fail than there are
-pub failing-le : (H : Matrix) (z : ℕ → ℕ) → failing H z ≤ H .m
-unfolding failing
-failing-le H z = omega (arith, sum-bound (H .m) 1 {f = fails H z} (λ i h. omega (arith, fails-bit H z i)))
 
 -- an answer is small where its report is so on an accepted matrix
 after-small : (v w : Verdict) (s : Said) → (v ≡ accepted → Small s) → Small (after (andThen v w) s)

@@ -31,7 +31,7 @@ use Rattle.codes.specs.Codes.{codeOf, Small}
 use Rattle.codes.specs.Records.{cellsOf, writtenBy}
 use Rattle.codes.specs.Settings.{StandsFor}
 use Rattle.ffi.specs.Calls.{leftBy, onRecord, CalledAs}
-use Rattle.ffi.proofs.Bounds.{failing-le}
+use Rattle.matrix.proofs.Linear.{failing-le}
 use Rattle.ffi.proofs.Alike.{unfit-verdict}
 
 -- a verdict accepts or refuses

@@ -16,9 +16,8 @@ use native.Mathlib.Omega.{arith}
 use lib.IntN.{ℤ, natAbs, _+ℤ_}
 use Rattle.counting.specs.Sum.{differ}
 use Rattle.counting.specs.Integers.{cut, above}
-use Rattle.counting.proofs.Sums.{sum-le, differ-eq, differ-ne}
+use Rattle.counting.proofs.Sums.{sum-le, differ-eq, differ-ne, differ-le}
 use Rattle.packed_word.specs.Packed.{distance}
-use Rattle.packed_word.proofs.Distances.{differ-le}
 use Rattle.parity_check.specs.Code.{Matrix, weight, Word, Codeword}
 use Rattle.parity_check.specs.Reading.{Rows}
 use Rattle.majority_logic.specs.Voting.{votes}

@@ -9,11 +9,12 @@ use native.Mathlib.Decide.{ℕ-discrete}
 use native.Mathlib.Omega.{arith}
 use Rattle.counting.specs.Sum.{sum, same, differ}
 use Rattle.counting.proofs.Sums.{sum-cong, sum-le, sum-add, sum-mul, sum-mul-right, sum-swap, sum-term, sum-one, sum-two, sum-pick}
-use Rattle.counting.proofs.Sums.{same-refl, same-ne, differ-bits, differ-eq, differ-ne}
+use Rattle.counting.proofs.Sums.{same-refl, same-ne, differ-eq, differ-ne}
 use Rattle.packed_word.specs.Packed.{distance}
 use Rattle.parity_check.specs.Code.{Matrix, entry, has, weight, common, Word, fails, Codeword}
 use Rattle.parity_check.specs.Reading.{Rows}
 use Rattle.parity_check.proofs.Rows.{has-le, row-sum, clean-at}
+use Rattle.matrix.proofs.Linear.{fails-differ}
 use Rattle.majority_logic.specs.Voting.{votes}
 
 -- the number of rows that have both columns
@@ -111,28 +112,8 @@ module _ (H : Matrix) (r : Rows H) where
   module _ (c z : ℕ → ℕ) (cw : Codeword H c) (zw : Word H z) where
     -- a check fails where an odd number of its columns are changed
     fails-hits : (i : ℕ) → i < H .m → fails H z i ≡ hits H (change z c) i % 2
-    unfolding fails hits change Word
-    fails-hits i h =
-        omega (
-          arith,
-          clean-at H c (cw .clean) i h,
-          sum-add (H .rho) zs cs,
-          sum-add (H .rho) es (λ k. 2 * (zs k * cs k)),
-          sum-mul (H .rho) 2 (λ k. zs k * cs k),
-          sum-cong (H .rho) each,
-        )
-      where
-        zs : ℕ → ℕ
-        zs k = z (entry H i k)
-
-        cs : ℕ → ℕ
-        cs k = c (entry H i k)
-
-        es : ℕ → ℕ
-        es k = differ (zs k) (cs k)
-
-        each : (k : ℕ) → k < H .rho → zs k + cs k ≡ es k + 2 * (zs k * cs k)
-        each k l = differ-bits (zs k) (cs k) (zw (entry H i k) (r .below i k h l)) (cw .word (entry H i k) (r .below i k h l))
+    unfolding fails hits change
+    fails-hits i h = omega (arith, fails-differ H z c r zw (cw .word) i h, clean-at H c (cw .clean) i h)
 
     -- a column that is not changed has at most as many failing checks as there are changes
     pub votes-kept : (j : ℕ) → j < H .n → z j ≡ c j → votes H z j ≤ distance (H .n) z c

@@ -10,13 +10,12 @@ use lib.Bits.{bitXor, xor-lt}
 use lib.Count.{ones, ones-step}
 use lib.ListN.{getD}
 use Rattle.counting.specs.Sum.{sum, differ}
-use Rattle.counting.proofs.Sums.{sum-cong, sum-append, sum-bound}
+use Rattle.counting.proofs.Sums.{sum-cong, sum-append, sum-bound, differ-le}
 use Rattle.packed_bits.specs.Packed.{bitAt, distance}
 use Rattle.packed_bits.specs.Steps.{apart}
 use Rattle.counting.specs.Digits.{digit}
 use Rattle.counting.proofs.Digits.{digit-xor}
 use Rattle.packed_bits.proofs.Packing.{bit-of}
-use Rattle.packed_bits.proofs.Distances.{differ-le}
 
 xor-differ : (x y : ℕ) → x < 2 → y < 2 → bitXor x y ≡ differ x y
 unfolding differ

@@ -8,13 +8,9 @@ use native.Mathlib.Nat.{mul-one}
 use native.Mathlib.Omega.{arith}
 use lib.ListN.{length}
 use Rattle.counting.specs.Sum.{sum, differ}
-use Rattle.counting.proofs.Sums.{sum-cong, sum-le, sum-zero, sum-bound, sum-add, sum-append, sum-term, sum-pos, differ-eq, differ-ne, differ-zero, differ-sym, differ-triangle}
+use Rattle.counting.proofs.Sums.{sum-cong, sum-le, sum-zero, sum-bound, sum-add, sum-append, sum-term, sum-pos, differ-eq, differ-ne, differ-le, differ-zero, differ-sym, differ-triangle}
 use Rattle.packed_bits.specs.Packed.{bitAt, bytesFor, spareSet, Bytes, distance}
 use Rattle.packed_bits.proofs.Packing.{pack-cong, pack-bitAt}
-
-pub differ-le : (a b : ℕ) → differ a b ≤ 1
-differ-le a b =
-    elim (ℕ-discrete a b) [ yes e ↦ omega (arith, differ-eq a b e) | no ne ↦ omega (arith, differ-ne a b ne) ]
 
 pub distance-cong : (n : ℕ) {z z′ c c′ : ℕ → ℕ} → ((j : ℕ) → j < n → z j ≡ z′ j) → ((j : ℕ) → j < n → c j ≡ c′ j) → distance n z c ≡ distance n z′ c′
 unfolding distance

@@ -2,17 +2,18 @@
 use mathlib.Core.Path.{_≡_, sym, ap, _∙_}
 use mathlib.Core.List.{List}
 use mathlib.Core.Logic.{inl, inr}
-use Prim.Native.Nat.{ℕ, zero, suc, _+_, _*_, _-_, _%_, _≤_, _<_}
-use native.Mathlib.Nat.{mul-le-mul-right}
+use Prim.Native.Nat.{ℕ, _+_, _*_, _%_, _≤_, _<_}
+use native.Mathlib.Nat.{mul-comm, mul-le-mul-right}
 use native.Mathlib.Omega.{arith}
 use lib.ListN.{length, set, replicate, length-set, length-replicate}
-use Rattle.counting.specs.Sum.{sum, differ}
-use Rattle.counting.proofs.Sums.{sum-cong, sum-add, sum-mul, sum-zero}
+use Rattle.counting.specs.Sum.{differ}
+use Rattle.counting.proofs.Sums.{sum-cong, sum-zero}
 use Rattle.counting.proofs.Writing.{stored, zeros}
 use Rattle.packed_word.specs.Steps.{at}
 use Rattle.parity_check.specs.Code.{Matrix, entry, has, Word, fails}
 use Rattle.parity_check.specs.Reading.{Accepted}
 use Rattle.parity_check.proofs.Rows.{few-entries, row-sum}
+use Rattle.matrix.proofs.Linear.{fails-differ}
 use Rattle.syndrome.specs.Places.{rowFails, Places}
 use Rattle.syndrome.proofs.Parity.{row-fails, row-bit}
 use Rattle.votes.specs.Tallies.{among}
@@ -30,17 +31,6 @@ places-cong f g m l t e p =
       each = λ x h. p .each x h ∙ e x h;
       total = p .total ∙ sum-cong m e;
     }
-
--- a bit and whether it is turned, as the new bit and a double
-turned-bit : (h a b : ℕ) → a < 2 → b < 2 → h * a + differ a b * h ≡ h * b + 2 * (h * (a * (1 - b)))
-unfolding differ
-turned-bit h zero zero k l = omega arith
-turned-bit h zero (suc zero) k l = omega arith
-turned-bit h (suc zero) zero k l = omega arith
-turned-bit h (suc zero) (suc zero) k l = omega arith
-turned-bit h zero (suc (suc b)) k l = absurd (omega arith)
-turned-bit h (suc zero) (suc (suc b)) k l = absurd (omega arith)
-turned-bit h (suc (suc a)) b k l = absurd (omega arith)
 
 module _ (H : Matrix) (a : Accepted H) (x : List ℕ) (d : Indexed H x) where
   -- the index as parts
@@ -60,19 +50,14 @@ module _ (H : Matrix) (a : Accepted H) (x : List ℕ) (d : Indexed H x) where
   module _ (z c : ℕ → ℕ) (wz : Word H z) (wc : Word H c) where
     -- the parity of one check
     turned-fails : (i : ℕ) → i < H .m → (fails H z i + flips x (H .gamma) z c (H .n) i) % 2 ≡ fails H c i
-    unfolding fails flips Word
-    turned-fails i h = omega (arith, row-sum H (a .rows) i h z, row-sum H (a .rows) i h c, turns-of, doubled)
+    unfolding fails flips
+    turned-fails i h = omega (arith, fails-differ H z c (a .rows) wz wc i h, row-sum H (a .rows) i h change, sum-cong (H .n) turns)
       where
-        turns-of : sum (H .n) (λ j. differ (z j) (c j) * among x (j * H .gamma) (H .gamma) i) ≡ sum (H .n) (λ j. differ (z j) (c j) * has H i j)
-        turns-of = sum-cong (H .n) (λ j l. ap (λ (y : ℕ). differ (z j) (c j) * y) (d .each j i l h))
+        change : ℕ → ℕ
+        change j = differ (z j) (c j)
 
-        doubled : sum (H .n) (λ j. has H i j * z j) + sum (H .n) (λ j. differ (z j) (c j) * has H i j)
-            ≡ sum (H .n) (λ j. has H i j * c j) + 2 * sum (H .n) (λ j. has H i j * (z j * (1 - c j)))
-        doubled =
-            sym (sum-add (H .n) (λ j. has H i j * z j) (λ j. differ (z j) (c j) * has H i j))
-            ∙ sum-cong (H .n) (λ j l. turned-bit (has H i j) (z j) (c j) (wz j l) (wc j l))
-            ∙ sum-add (H .n) (λ j. has H i j * c j) (λ j. 2 * (has H i j * (z j * (1 - c j))))
-            ∙ ap (λ (y : ℕ). sum (H .n) (λ j. has H i j * c j) + y) (sum-mul (H .n) 2 (λ j. has H i j * (z j * (1 - c j))))
+        turns : (j : ℕ) → j < H .n → has H i j * change j ≡ change j * among x (j * H .gamma) (H .gamma) i
+        turns j l = mul-comm (has H i j) (change j) ∙ ap (λ (y : ℕ). change j * y) (sym (d .each j i l h))
 
     -- the parities of all checks
     pub turned-parities : (p p′ : List ℕ) → Parities H z p → Turned (flips x (H .gamma) z c (H .n)) p p′ → Parities H c p′
