@@ -13,14 +13,15 @@ use Rattle.packed_word.proofs.Distances.{distance-le}
 use Rattle.parity_check.specs.Code.{Matrix, failing}
 use Rattle.parity_check.specs.Check.{checkOf}
 use Rattle.parity_check.specs.Reading.{Accepted}
-use Rattle.matrix.proofs.Linear.{failing-le}
+use Rattle.parity_check.proofs.Rows.{failing-le}
 use Rattle.parity_check.proofs.Reading.{accepted-is}
 use Rattle.syndrome.specs.Failing.{failingVerdict, failingOf}
 use Rattle.majority_logic.specs.OneStep.{stepWord, stepRounds, oneStepReport, oneStepVerdict, oneStepOf}
 use Rattle.quantiser.specs.Samples.{Choice, settingFits, largest, hardBit}
 use Rattle.quantiser.proofs.Ranges.{fits-reads}
-use Rattle.iterative.specs.Iterative.{startOf, changedBits, endFrom, reportAt, iterativeVerdict, iterativeOf}
+use Rattle.iterative.specs.Iterative.{startOf, endFrom, reportAt, iterativeVerdict, iterativeOf}
 use Rattle.iterative.proofs.Ends.{rounds-within}
+use Rattle.iterative_core.proofs.Changes.{changed-le}
 use Rattle.codes.specs.Codes.{Small}
 
 -- an answer is small where its report is so on an accepted matrix
@@ -61,7 +62,7 @@ one-step-small H w room = after-small (checkOf H) _ _ (λ e. report-small H (acc
 
 -- iterative voting: its rounds are within the round limit
 pub iterative-small : (H : Matrix) (S : Choice) (xs : List Float) (b l : ℕ) → Small (iterativeOf H S xs b l)
-unfolding iterativeOf iterativeVerdict reportAt endFrom changedBits
+unfolding iterativeOf iterativeVerdict reportAt endFrom
 iterative-small H S xs b l =
     cases (settingFits S) (λ y. after-small (checkOf H) _ _ (fit y)) (λ n. rw n (six (checkOf H) _))
   where
@@ -76,5 +77,5 @@ iterative-small H S xs b l =
         record {
           rounds = omega (arith, rounds-within H (largest (S .bits)) (S .limit) (startOf S xs), fits-reads S y .limit);
           failing = omega (arith, failing-le H (t .last .z), a .m-most);
-          changed = omega (arith, distance-le (H .n) (t .last .z) (hardBit xs), a .n-most);
+          changed = omega (arith, changed-le H (t .last .z) (hardBit xs), a .n-most);
         }

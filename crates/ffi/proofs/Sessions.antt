@@ -13,12 +13,12 @@ use Rattle.answers.specs.Paper.{Verdict, accepted, refused, Said, andThen}
 use Rattle.answers.specs.Answers.{saidOf}
 use Rattle.answers.specs.declared.Answer.{Answer}
 use Rattle.packed_word.specs.Packed.{bitAt}
-use Rattle.packed_word.proofs.Distances.{distance-le}
+use Rattle.iterative_core.proofs.Changes.{changed-le}
 use Rattle.parity_check.specs.Code.{Matrix, failing}
 use Rattle.parity_check.specs.Check.{checkOf}
 use Rattle.parity_check.specs.Reading.{Accepted}
 use Rattle.quantiser.specs.Samples.{Choice, settingFits, hardBit}
-use Rattle.iterative.specs.Iterative.{startOf, changedBits}
+use Rattle.iterative.specs.Iterative.{startOf}
 use Rattle.session_record.specs.Record.{Record}
 use Rattle.session_asking.specs.Asked.{Held, openVerdict, stepVerdict}
 use Rattle.session_steps.specs.Steps.{Left, saysAt, openOf, stepOf}
@@ -31,7 +31,7 @@ use Rattle.codes.specs.Codes.{codeOf, Small}
 use Rattle.codes.specs.Records.{cellsOf, writtenBy}
 use Rattle.codes.specs.Settings.{StandsFor}
 use Rattle.ffi.specs.Calls.{leftBy, onRecord, CalledAs}
-use Rattle.matrix.proofs.Linear.{failing-le}
+use Rattle.parity_check.proofs.Rows.{failing-le}
 use Rattle.ffi.proofs.Alike.{unfit-verdict}
 
 -- a verdict accepts or refuses
@@ -41,12 +41,11 @@ verdict-cases (refused k x) f g = g k x refl
 
 -- the answer of an accepted call
 says-small : (H : Matrix) → Accepted H → (limit k : ℕ) (r z : ℕ → ℕ) → k < 256 → Small (saysAt H limit k r z)
-unfolding changedBits
 says-small H a limit k r z h =
     record {
       rounds = h;
       failing = omega (arith, failing-le H z, a .sizes .m-most);
-      changed = omega (arith, distance-le (H .n) z r, a .sizes .n-most);
+      changed = omega (arith, changed-le H z r, a .sizes .n-most);
     }
 
 pub open-small : (H : Matrix) (S : Choice) (xs : List Float) (h : Held) → Small (openOf H S xs h .said)

@@ -23,6 +23,7 @@ use Rattle.soft_levels.specs.Levels.{biased, unbiased, Bounded, Biased, Restora
 use Rattle.soft_levels.proofs.Levels.{biased-le}
 use Rattle.soft_rounds.specs.Rounds.{endOf}
 use Rattle.iterative_core.specs.Iterative.{startOf, changedBits, endFrom, reportAt, iterativeWord, iterativeLevels}
+use Rattle.iterative_core.proofs.Changes.{changed-all}
 use Rattle.soft_rounds.specs.Stages.{stateAt, Alike, AlikeEnds}
 use Rattle.soft_rounds.specs.Runs.{stateOf, Holds, Ready, Stopped, Ran}
 use Rattle.iterative_core.specs.Calls.{Lent, Started, Decoded}
@@ -167,11 +168,12 @@ module _ (H : Matrix) (S : Choice) (xs : List Float) (w : List ℕ) (ls : List �
     -- the answer, the word and the levels
     counted : (hard₀ hard w′ : List ℕ) → hard ≡ over (pack (H .n) (at z)) hard₀ → w′ ≡ over (pack (H .n) (at z′)) w
         → distance (8 * bytesFor (H .n)) (bitAt (take (bytesFor (H .n)) w′)) (bitAt (take (bytesFor (H .n)) hard)) ≡ changedBits H (endFrom H S xs .last .z) (hardBit xs)
-    unfolding changedBits startOf
+    unfolding startOf
     counted hard₀ hard w′ eh ew =
         ap₂ (λ (a b : List ℕ). distance (8 * bytesFor (H .n)) (bitAt a) (bitAt b)) (packed-front (H .n) (at z′) w w′ ew) (packed-front (H .n) (at z) hard₀ hard eh)
         ∙ packed-distance (H .n) (at z′) (at z) stop-bits start-bits
         ∙ distance-cong (H .n) (stopped .holds .word) (holds-start .word)
+        ∙ sym (changed-all H (endFrom H S xs .last .z) (hardBit xs))
 
     reported : (changed : ℕ) (said : Said) → changed ≡ changedBits H (endFrom H S xs .last .z) (hardBit xs) → said ≡ report (outcomeBy f) k f changed
         → said ≡ reportAt H (hardBit xs) (endFrom H S xs)

@@ -1,5 +1,6 @@
 -- Iterative soft voting on samples: the whole call. (Document 01, "Iterative voting"; refusals 1 to 8.)
 --   startOf S xs             == step 1: the hard bits and the levels
+--   changedIn n c z r        == how many of the places below n that c counts differ in the words z and r
 --   changedBits H z r        == "changed": positions at which the word handed back differs from the received word
 --   endFrom H S xs           == the k and the state with which the list ends
 --   reportAt H r e           == the answer at the end e, r being the received word
@@ -7,16 +8,17 @@
 --   iterativeOf              == what iterative voting says
 --   iterativeWord, iterativeLevels   == what it writes
 -- Assumes nothing.
-use Prim.Native.Nat.{ℕ}
+use Prim.Native.Nat.{ℕ, _*_}
 use mathlib.Core.Bool.{not, _||_}
 use mathlib.Core.List.{List}
 use lib.Dec.{eqb, ltb}
 use lib.IntN.{ℤ}
 use lib.Ieee.{Float, nan}
 use lib.ListN.{length, getD}
+use Rattle.counting.specs.Sum.{sum, differ}
 use Rattle.counting.specs.Lists.{listed}
 use Rattle.answers.specs.Paper.{Verdict, accepted, refuseWhen, refuseAt, andThen, Said, report, after}
-use Rattle.packed_word.specs.Packed.{bytesFor, pack, distance}
+use Rattle.packed_word.specs.Packed.{bytesFor, pack}
 use Rattle.parity_check.specs.Code.{Matrix, failing}
 use Rattle.parity_check.specs.Check.{checkOf}
 use Rattle.quantiser.specs.Samples.{Choice, settingFits, largest, levelOf, hardBit, firstNotFinite}
@@ -27,9 +29,13 @@ use Rattle.soft_rounds.specs.Rounds.{State, state, End, endOf}
 unfoldable pub startOf : Choice → List Float → State
 startOf S xs = state (hardBit xs) (λ j. levelOf S (getD xs j nan))
 
+-- the places at which two words differ, each as often as it counts: once or not at all
+unfoldable pub changedIn : ℕ → (ℕ → ℕ) → (ℕ → ℕ) → (ℕ → ℕ) → ℕ
+changedIn n counted z r = sum n (λ j. counted j * differ (z j) (r j))
+
 -- "changed (positions at which the word handed back differs from the received word, that is from the hard bits where samples were lent)"
 unfoldable pub changedBits : Matrix → (ℕ → ℕ) → (ℕ → ℕ) → ℕ
-changedBits H z r = distance (H .n) z r
+changedBits H z r = changedIn (H .n) (λ j. 1) z r
 
 -- the end of the list, from its start
 unfoldable pub endFrom : Matrix → Choice → List Float → End

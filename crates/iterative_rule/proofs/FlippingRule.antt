@@ -16,7 +16,7 @@ use lib.Dec.{eqb}
 use lib.IntN.{ℤ}
 use lib.Ieee.{Float, nan}
 use lib.ListN.{length, getD}
-use Rattle.answers.specs.Paper.{accepted, Said, report, written}
+use Rattle.answers.specs.Paper.{Said, report, written}
 use Rattle.packed_word.specs.Packed.{bitAt}
 use Rattle.packed_word.proofs.Distances.{distance-cong, distance-sym}
 use Rattle.parity_check.specs.Code.{Matrix, weight}
@@ -28,6 +28,7 @@ use Rattle.soft_levels.specs.Levels.{biased}
 use Rattle.soft_levels.proofs.Levels.{biased-le}
 use Rattle.iterative_core.specs.Iterative.{startOf, changedBits, endFrom, reportAt, iterativeVerdict, iterativeOf, iterativeWord}
 use Rattle.iterative_core.specs.Calls.{Lent}
+use Rattle.iterative_core.proofs.Changes.{changed-all}
 use Rattle.iterative_core.proofs.Loans.{verdict-lent}
 use Rattle.iterative_rule.specs.Claims.{wrongBits, stride, roundsFor, SamplesWithinHalf, EndsRight, IterativeRule, AmpleLimit, OneRound}
 use Rattle.iterative_rule.proofs.Sides.{hard-high, hard-firm, hard-low}
@@ -82,8 +83,10 @@ module _ (H : Matrix) (S : Choice) (xs : List Float) (w : List ℕ) (ls : List �
         half near-start (S .limit) time
 
     call-changed : changedBits H (endFrom H S xs .last .z) (hardBit xs) ≡ wrongBits H c xs
-    unfolding changedBits
-    call-changed = distance-cong (H .n) (call-ends .right) (λ j l. refl) ∙ distance-sym (H .n) (bitAt c) (hardBit xs)
+    call-changed =
+        changed-all H (endFrom H S xs .last .z) (hardBit xs)
+        ∙ distance-cong (H .n) (call-ends .right) (λ j l. refl)
+        ∙ distance-sym (H .n) (bitAt c) (hardBit xs)
 
     -- what is reported
     call-says : reportAt H (hardBit xs) (endFrom H S xs) ≡ report 0 (endFrom H S xs .k) 0 (wrongBits H c xs)

@@ -3,17 +3,16 @@
 --   fails-turned    == a bit turned over turns over the checks of its column
 --   fails-differ    == a check fails for one of two words only where they differ at an odd number of its columns
 --   plus-codeword   == the sum of two codewords is a codeword
---   failing-le      == no more checks fail than there are
 -- Assumes nothing.
-use mathlib.Core.Path.{_≡_, refl, sym, ap, _∙_}
-use Prim.Native.Nat.{ℕ, zero, suc, _+_, _%_, _≤_, _<_}
+use mathlib.Core.Path.{_≡_, refl, _∙_}
+use Prim.Native.Nat.{ℕ, zero, suc, _+_, _%_, _<_}
 use native.Mathlib.Omega.{arith}
 use Rattle.counting.specs.Sum.{sum, same, differ}
-use Rattle.counting.proofs.Sums.{sum-cong, sum-add, sum-zero, sum-bound, same-sym, differ-bits, differ-le}
+use Rattle.counting.proofs.Sums.{sum-cong, sum-add, sum-zero, same-sym, differ-bits, differ-le}
 use Rattle.matrix.specs.Code.{Matrix, entry, has, Word, fails, failing, Codeword}
 use Rattle.matrix.specs.Reading.{Rows}
 use Rattle.matrix.specs.Linear.{plus}
-use Rattle.matrix.proofs.Rows.{clean-at, fails-bit, fails-cong}
+use Rattle.matrix.proofs.Rows.{clean-at, fails-cong}
 
 -- a sum, modulo 2, of what is left modulo 2
 sum-mod : (k : ℕ) (f : ℕ → ℕ) → sum k (λ x. f x % 2) % 2 ≡ sum k f % 2
@@ -54,10 +53,7 @@ module _ (H : Matrix) (z c : ℕ → ℕ) where
 -- a bit turned over turns over the checks of its column
 pub fails-turned : (H : Matrix) (z : ℕ → ℕ) (j i : ℕ) → fails H (plus z (same j)) i ≡ (fails H z i + has H i j) % 2
 unfolding fails has
-fails-turned H z j i =
-    fails-plus H z (same j) i ∙ omega (arith, sum-cong (H .rho) {f = λ k. same j (entry H i k)} {g = λ k. same (entry H i k) j} (λ k l. same-sym j (entry H i k)))
-
--- no more checks fail than there are
-pub failing-le : (H : Matrix) (z : ℕ → ℕ) → failing H z ≤ H .m
-unfolding failing
-failing-le H z = omega (arith, sum-bound (H .m) 1 {f = fails H z} (λ i h. omega (arith, fails-bit H z i)))
+fails-turned H z j i = fails-plus H z (same j) i ∙ omega (arith, sum-cong (H .rho) each)
+  where
+    each : (k : ℕ) → k < H .rho → same j (entry H i k) ≡ same (entry H i k) j
+    each k l = same-sym j (entry H i k)

@@ -6,7 +6,7 @@ use native.Mathlib.Omega.{arith}
 use lib.Arith.{digits-lt}
 use lib.ListN.{length, getD}
 use Rattle.counting.specs.Sum.{sum, same}
-use Rattle.counting.proofs.Sums.{sum-zero, same-ne, sum-cong, sum-term, sum-pick, sum-flat, sum-swap, sum-mul-right, same-sym}
+use Rattle.counting.proofs.Sums.{sum-zero, sum-bound, same-ne, sum-cong, sum-term, sum-pick, sum-flat, sum-swap, sum-mul-right, same-sym}
 use Rattle.counting.proofs.Ascending.{ascending-lt, ascending-once}
 use Rattle.matrix.specs.Code.{Matrix, entry, has, weight, common, fails, failing}
 use Rattle.matrix.specs.Reading.{Rows, Sizes}
@@ -32,6 +32,11 @@ clean-at H c e i h = omega (arith, sum-term (H .m) (fails H c) i h)
 pub fails-bit : (H : Matrix) (z : ℕ → ℕ) (i : ℕ) → fails H z i < 2
 unfolding fails
 fails-bit H z i = omega arith
+
+-- no more checks fail than there are
+pub failing-le : (H : Matrix) (z : ℕ → ℕ) → failing H z ≤ H .m
+unfolding failing
+failing-le H z = omega (arith, sum-bound (H .m) 1 {f = fails H z} (λ i h. omega (arith, fails-bit H z i)))
 
 -- there are no more entries than the largest sizes have
 pub few-entries : (H : Matrix) → Sizes H → H .m * H .rho ≤ 32736

@@ -15,13 +15,14 @@ use Rattle.answers.specs.declared.Answer.{Answer}
 use Rattle.packed_word.specs.Packed.{bitAt, bytesFor, pack, distance}
 use Rattle.packed_word.specs.Steps.{at}
 use Rattle.packed_word.proofs.Packing.{length-pack, bitAt-pack, spare-pack, spare-clear, pack-cong}
-use Rattle.packed_word.proofs.Distances.{distance-cong, distance-spare, distance-self}
+use Rattle.packed_word.proofs.Distances.{distance-cong, distance-spare}
 use Rattle.parity_check.specs.Code.{Matrix, Word, failing}
 use Rattle.parity_check.proofs.Rows.{failing-cong}
 use Rattle.quantiser.specs.Samples.{Choice, largest, levelOf, levelsOf, hardBit}
 use Rattle.quantiser.specs.Filling.{Fillable, Filled}
 use Rattle.quantiser.proofs.Ranges.{reads-fits, largest-most}
 use Rattle.iterative_core.specs.Iterative.{startOf, changedBits}
+use Rattle.iterative_core.proofs.Changes.{changed-all, changed-self}
 use Rattle.session_record.specs.Record.{recordFor, stateAfter, outcomeIn}
 use Rattle.session_record.specs.Sessions.{recordOf}
 use Rattle.session_asking.specs.Asked.{Held, openVerdict, stepVerdict}
@@ -48,7 +49,6 @@ module _ (H : Matrix) (w : List ℕ) (h : Held) (s : Steppable H w h) where
 
   -- the places at which all bytes differ are those of the code's bits
   changed-is : distance (8 * bytesFor (H .n)) (bitAt (pack (H .n) (steppedState H h .z))) (bitAt w) ≡ changedBits H (steppedState H h .z) (bitAt w)
-  unfolding changedBits
   changed-is =
       let z : ℕ → ℕ = steppedState H h .z in
       let b : (j : ℕ) → j < H .n → z j < 2 = λ j l. round-bits H (largest (h .rec .bits)) (heldState h) j in
@@ -57,6 +57,7 @@ module _ (H : Matrix) (w : List ℕ) (h : Held) (s : Steppable H w h) where
       ∙ distance-spare (H .n) (8 * bytesFor (H .n) - H .n) (bitAt (pack (H .n) z)) (bitAt w)
       (λ j g l. spare-pack (H .n) z b j g ∙ sym (spare-clear (H .n) w (s .clear) j g (omega arith)))
       ∙ distance-cong (H .n) (bitAt-pack (H .n) z b) (λ j l. refl)
+      ∙ sym (changed-all H z (bitAt w))
 
   module _ (L f : ℕ) (word′ : List ℕ) (levels′ : List ℤ) (e : L ≡ largest (h .rec .bits)) (t : Turned H L (h .word) word′ (h .levels) levels′ f) where
     word-is : word′ ≡ over (pack (H .n) (steppedState H h .z)) (h .word)
@@ -127,8 +128,8 @@ module _ (H : Matrix) (S : Choice) (xs : List Float) (h : Held) (o : Openable H 
     levels-are = q .levels ∙ ap (λ (n : ℕ). over (listed n (λ j. levelOf S (getD xs j nan))) (h .levels)) (o .samples)
 
     none-changed : 0 ≡ changedBits H (startOf S xs .z) (hardBit xs)
-    unfolding changedBits startOf
-    none-changed = sym (distance-self (H .n) (hardBit xs))
+    unfolding startOf
+    none-changed = sym (changed-self H (hardBit xs))
 
     pub open-leaves : (f : ℕ) (word′ : List ℕ) (answer : Answer) (session : Session) → word′ ≡ over (pack (H .n) (at cells)) (h .word) → f ≡ failing H (at cells)
         → recordOf session ≡ recordFor H (stateAfter f 0 (S .limit)) (S .bits) (S .limit) 0

@@ -22,7 +22,7 @@ use Rattle.parity_check.specs.Code.{entry, has, weight, common, fails, failing}
 use Rattle.parity_check.specs.Check.{sizesFit, badEntry, badWeight, overlapping, listOf, checkOf}
 use Rattle.quantiser.specs.Samples.{stepFits, settingFits, nearest, magnitude, levelOf, hardOf, hardBit, notFinite}
 use Rattle.iterative.specs.Rounds.{others, extrinsic, levelAfter, roundOf, endOf}
-use Rattle.iterative.specs.Iterative.{startOf, changedBits, endFrom, reportAt, iterativeWord}
+use Rattle.iterative.specs.Iterative.{startOf, changedIn, changedBits, endFrom, reportAt, iterativeWord}
 use Rattle.numerals.specs.Numerals.{ascii, digit, digitsWithin, decimal, hex}
 use Rattle.text.specs.Output.{line, heading, shortText, refusedText, saidText, blockText}
 use Rattle.input.specs.Input.{number16, number32, float, matrixIn, entryIn, entriesIn, choiceIn, sampleIn, samplesIn}
@@ -91,5 +91,5 @@ eachWanted (r ∷ rs) = (heading ++ ascii (r .text)) ∷ eachWanted rs
 
 -- the written definitions print it
 pub every-run : eachMade table ≡ eachWanted table
-unfolding table eachMade eachWanted inputA blockP6 blockInfinite blockP8 low16 low32 printed sizedText restText blocksText chunkText blockLines blockAt blockLine blockSaid blockVerdict settingVerdict openingVerdict number16 number32 float matrixIn entryIn entriesIn choiceIn sampleIn samplesIn digit digitsWithin decimal hex line heading shortText refusedText saidText blockText checkOf listOf sizesFit badEntry badWeight overlapping failing fails common weight has entry distance pack packedByte bitAt listed over any first sum same differ sumℤ stepFits settingFits nearest magnitude levelOf hardOf hardBit notFinite others extrinsic levelAfter roundOf endOf startOf changedBits endFrom reportAt iterativeWord ofBits ofFields odd lt le eq
+unfolding table eachMade eachWanted inputA blockP6 blockInfinite blockP8 low16 low32 printed sizedText restText blocksText chunkText blockLines blockAt blockLine blockSaid blockVerdict settingVerdict openingVerdict number16 number32 float matrixIn entryIn entriesIn choiceIn sampleIn samplesIn digit digitsWithin decimal hex line heading shortText refusedText saidText blockText checkOf listOf sizesFit badEntry badWeight overlapping failing fails common weight has entry distance pack packedByte bitAt listed over any first sum same differ sumℤ stepFits settingFits nearest magnitude levelOf hardOf hardBit notFinite others extrinsic levelAfter roundOf endOf startOf changedBits changedIn endFrom reportAt iterativeWord ofBits ofFields odd lt le eq
 every-run = refl
