@@ -2,6 +2,7 @@
 // Rests on `votes`, `flips`, `syndrome`, `packed_word` and `parity_check`. Document 01: "One-step voting".
 use answers::Report;
 use parity_check::Shape;
+use votes::Stop;
 ghost use Rattle.answers.specs.Answers.{reportOf};
 ghost use Rattle.packed_word.specs.Steps.{at};
 ghost use Rattle.parity_check.specs.Code.{Word};
@@ -9,28 +10,22 @@ ghost use Rattle.parity_check.specs.Reading.{Accepted};
 ghost use Rattle.parity_check.specs.Shapes.{matrixOf};
 ghost use Rattle.one_step_core.specs.Stepped.{Stepped, Lent, Voted};
 
-// How many rounds a vote took, and how many checks fail after it.
-pub struct Tally {
-    pub rounds: u16,
-    pub failing: u16,
-}
-
 // One vote on an unpacked word: nothing moves where no check fails.
-fn vote(shape: Shape, list: &[u16], bits: &mut [u8; 1023]) -> Tally
+fn vote(shape: Shape, list: &[u16], bits: &mut [u8; 1023]) -> Stop
     requires { ⌜ Accepted (matrixOf shape (now list)) × Word (matrixOf shape (now list)) (at (now bits)) ⌝ }
     ensures { λ r. ⌜ Stepped (matrixOf shape (now (list .entry))) (at (now (bits .entry))) (now (bits .exit)) (r .rounds) (r .failing) ⌝ }
 {
     let mut votes = [0u8; 1023];
     let before = votes::tally(shape, list, bits, &mut votes);
     if before == 0 {
-        return Tally {
+        return Stop {
             rounds: 0,
             failing: 0,
         };
     }
     flips::flip_all(shape, &votes, bits);
     let after = syndrome::failing_count(shape, list, bits);
-    Tally {
+    Stop {
         rounds: 1,
         failing: after,
     }

@@ -1,17 +1,12 @@
 // Rounds of reliability-based iterative majority-logic decoding: one round, and rounds until they end.
-// Rests on `soft_levels` and `running_tally`. Document 01: "Iterative voting", steps 2 to 6.
+// Rests on `soft_levels`, `running_tally` and `votes`. Document 01: "Iterative voting", steps 2 to 6.
 use parity_check::Shape;
+use votes::Stop;
 ghost use Rattle.packed_word.specs.Steps.{at};
 ghost use Rattle.parity_check.specs.Shapes.{matrixOf};
 ghost use Rattle.column_index.specs.Index.{Indexed};
 ghost use Rattle.running_tally.specs.Parities.{Parities};
 ghost use Rattle.soft_rounds.specs.Runs.{Ready, Rounded, Ran};
-
-// Where the rounds stopped: how many there were, and how many checks fail.
-pub struct Stop {
-    pub rounds: u16,
-    pub failing: u16,
-}
 
 // One round, steps 4 to 6: bits and levels by the votes of the old bits, then the votes of the new ones.
 // How many checks fail is asked next, so it is counted with the votes.

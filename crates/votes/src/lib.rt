@@ -9,6 +9,12 @@ ghost use Rattle.parity_check.specs.Shapes.{matrixOf};
 ghost use Rattle.syndrome.specs.Places.{Part};
 ghost use Rattle.votes.specs.Tallies.{among, ofRows, Room, Parts, More, Tallied};
 
+// Where voting stopped: how many rounds there were, and how many checks fail.
+pub struct Stop {
+    pub rounds: u16,
+    pub failing: u16,
+}
+
 // A vote more at each of `count` column numbers of the list.
 fn add_row(list: &[u16], from: usize, count: usize, votes: &mut [u8; 1023])
     requires { ⌜ Part (now list) from count × Room (among (now list) from count) (now votes) ⌝ }
