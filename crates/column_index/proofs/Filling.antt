@@ -160,7 +160,9 @@ module _ (H : Matrix) (a : Accepted H) where
           in-counts : column < length counts
           in-counts = omega (arith, f .long-counts, a .rows .below i k row h, a .sizes .n-most)
 
-          one : (r : ℕ) → placed H i column r + placing H i k column r + same i r ≡ placed H i column r + (placing H i k column r + same i r * same column column)
+          one : (r : ℕ)
+              → placed H i column r + placing H i k column r + same i r
+              ≡ placed H i column r + (placing H i k column r + same i r * same column column)
           one r = omega (arith, ap (λ (y : ℕ). same i r * y) (same-refl column))
 
           none : (j r : ℕ) → (column ≡ j → ⊥) → placed H i j r + placing H i k j r ≡ placed H i j r + (placing H i k j r + same i r * same column j)
@@ -221,5 +223,8 @@ module _ (H : Matrix) (a : Accepted H) where
         each = λ j i l h.
             ap (λ (c : ℕ). among x (j * H .gamma) c i) (sym (weight-equal H a (a .sizes .product) j l) ∙ omega (arith, f .count j))
             ∙ f .each j i
-            ∙ omega (arith, sum-pick (H .m) (λ r. has H r j) i h, sum-cong (H .m) {f = λ r. same i r * has H r j} {g = λ r. same r i * has H r j} (λ r g. ap (λ (y : ℕ). y * has H r j) (same-sym i r)));
+            ∙ omega (arith, sum-pick (H .m) (λ r. has H r j) i h, sum-cong (H .m) (turned i j));
       }
+    where
+      turned : (i j r : ℕ) → r < H .m → same i r * has H r j ≡ same r i * has H r j
+      turned i j r g = ap (λ (y : ℕ). y * has H r j) (same-sym i r)

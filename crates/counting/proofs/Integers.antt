@@ -31,12 +31,18 @@ sub-sum x y a b =
       | no h ↦
           elim (decLt a b) [
             | no g ↦ rw (sub-ge x y (x - y) (omega arith), sub-ge a b (a - b) (omega arith)) (sym (sub-ge (x + a) (y + b) (x - y + (a - b)) (omega arith)))
-            | yes g ↦ rw (sub-ge x y (x - y) (omega arith), sub-lt a b (b - a - 1) (omega arith)) (same-difference (x - y) (suc (b - a - 1)) (x + a) (y + b) (omega arith))
+            | yes g ↦
+                rw (sub-ge x y (x - y) (omega arith), sub-lt a b (b - a - 1) (omega arith))
+                (same-difference (x - y) (suc (b - a - 1)) (x + a) (y + b) (omega arith))
           ]
       | yes h ↦
           elim (decLt a b) [
-            | no g ↦ rw (sub-lt x y (y - x - 1) (omega arith), sub-ge a b (a - b) (omega arith)) (same-difference (a - b) (suc (y - x - 1)) (x + a) (y + b) (omega arith))
-            | yes g ↦ rw (sub-lt x y (y - x - 1) (omega arith), sub-lt a b (b - a - 1) (omega arith)) (sym (sub-lt (x + a) (y + b) (suc (y - x - 1 + (b - a - 1))) (omega arith)))
+            | no g ↦
+                rw (sub-lt x y (y - x - 1) (omega arith), sub-ge a b (a - b) (omega arith))
+                (same-difference (a - b) (suc (y - x - 1)) (x + a) (y + b) (omega arith))
+            | yes g ↦
+                rw (sub-lt x y (y - x - 1) (omega arith), sub-lt a b (b - a - 1) (omega arith))
+                (sym (sub-lt (x + a) (y + b) (suc (y - x - 1 + (b - a - 1))) (omega arith)))
           ]
     ]
 

@@ -8,7 +8,8 @@ use native.Mathlib.Numerals.{add-one}
 use native.Mathlib.Decide.{ℕ-discrete}
 use native.Mathlib.Omega.{arith}
 use lib.ListN.{length, getD, drop, take, set, replicate, length-append, length-drop, List·getD-append}
-use lib.Seq.{getD-append-add, getD-append-seam, getD-drop, take-append-seam, drop-append-seam, drop-cons, append-snoc, set-at, getD-set-same, getD-set-other, ext-getD}
+use lib.Seq.{getD-append-add, getD-append-seam, getD-drop, take-append-seam, drop-append-seam, drop-cons, append-snoc}
+use lib.Seq.{set-at, getD-set-same, getD-set-other, ext-getD}
 use Rattle.counting.specs.Lists.{listed, over}
 
 module _ {A : Type 0} where

@@ -23,7 +23,8 @@ use Rattle.answers.specs.Paper.{Verdict, accepted, refused, refuseAt}
 use Rattle.answers.proofs.Verdicts.{not-accepted}
 use Rattle.matrix.specs.Code.{Matrix, entry, weight, common}
 use Rattle.matrix.specs.Check.{within, sizesFit, badEntry, badWeight, overlapping, listOf, checkOf}
-use Rattle.matrix.specs.Reading.{Sizes, BadEntry, BadWeight, Overlap, Never, Rows, Accepted, Reads, sizes-out, length-wrong, entry-bad, weight-bad, rows-overlap, fine}
+use Rattle.matrix.specs.Reading.{Sizes, BadEntry, BadWeight, Overlap, Never, Rows, Accepted}
+use Rattle.matrix.specs.Reading.{Reads, sizes-out, length-wrong, entry-bad, weight-bad, rows-overlap, fine}
 use Rattle.matrix.proofs.Rows.{stands}
 
 -- a number in its range
@@ -112,7 +113,8 @@ module _ (H : Matrix) where
   pub overlap-clear : (i : ℕ) → overlapping H i ≡ false → Overlap H i → ⊥
   unfolding overlapping
   overlap-clear i e o =
-      never (sym (any-at (λ i′. ltb i i′ && leb 2 (common H i i′)) (H .m) (o .0) (o .2) (and-both _ _ (lt-ltb i (o .0) (o .1)) (le-leb 2 (common H i (o .0)) (o .3)))) ∙ e)
+      let both = and-both _ _ (lt-ltb i (o .0) (o .1)) (le-leb 2 (common H i (o .0)) (o .3)) in
+      never (sym (any-at (λ i′. ltb i i′ && leb 2 (common H i i′)) (H .m) (o .0) (o .2) both) ∙ e)
 
   pub entries : Decides (badEntry H) (BadEntry H)
   entries = record { says = entry-says; clear = entry-clear }

@@ -28,8 +28,17 @@ module _ (f : ℕ → ℕ) (bits : (i : ℕ) → i < 8 → f i < 2) where
   pub byte-small : byte f < 256
   unfolding sum
   byte-small =
-      omega
-      (arith, bits 0 (omega arith), bits 1 (omega arith), bits 2 (omega arith), bits 3 (omega arith), bits 4 (omega arith), bits 5 (omega arith), bits 6 (omega arith), bits 7 (omega arith))
+      omega (
+        arith,
+        bits 0 (omega arith),
+        bits 1 (omega arith),
+        bits 2 (omega arith),
+        bits 3 (omega arith),
+        bits 4 (omega arith),
+        bits 5 (omega arith),
+        bits 6 (omega arith),
+        bits 7 (omega arith),
+      )
 
   -- the bits of the byte made of bits
   pub digit-byte : (i : ℕ) → i < 8 → digit (byte f) (7 - i) ≡ f i
@@ -43,7 +52,8 @@ module _ (f : ℕ → ℕ) (bits : (i : ℕ) → i < 8 → f i < 2) where
       let b5 : f 5 < 2 = bits 5 (omega arith) in
       let b6 : f 6 < 2 = bits 6 (omega arith) in
       let b7 : f 7 < 2 = bits 7 (omega arith) in
-      each-place (λ i. digit (byte f) (7 - i) ≡ f i) (omega arith) (omega arith) (omega arith) (omega arith) (omega arith) (omega arith) (omega arith) (omega arith)
+      each-place (λ i. digit (byte f) (7 - i) ≡ f i)
+      (omega arith) (omega arith) (omega arith) (omega arith) (omega arith) (omega arith) (omega arith) (omega arith)
 
 -- a number by its halves: each is twice the next, and one digit
 halves : (a d : ℕ → ℕ) → ((k : ℕ) → a k ≡ 2 * a (suc k) + d k) → a 8 ≡ 0 → byte (λ i. d (7 - i)) ≡ a 0

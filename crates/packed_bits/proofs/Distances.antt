@@ -3,12 +3,12 @@ use mathlib.Core.Path.{_≡_, refl, sym, ap₂, _∙_}
 use mathlib.Core.Bool.{false}
 use mathlib.Core.List.{List}
 use Prim.Native.Nat.{ℕ, _+_, _≤_, _<_}
-use native.Mathlib.Decide.{ℕ-discrete}
 use native.Mathlib.Nat.{mul-one}
 use native.Mathlib.Omega.{arith}
 use lib.ListN.{length}
 use Rattle.counting.specs.Sum.{sum, differ}
-use Rattle.counting.proofs.Sums.{sum-cong, sum-le, sum-zero, sum-bound, sum-add, sum-append, sum-term, sum-pos, differ-eq, differ-ne, differ-le, differ-zero, differ-sym, differ-triangle}
+use Rattle.counting.proofs.Sums.{sum-cong, sum-le, sum-zero, sum-bound, sum-add, sum-append, sum-term, sum-pos}
+use Rattle.counting.proofs.Sums.{differ-eq, differ-le, differ-zero, differ-sym, differ-triangle}
 use Rattle.packed_bits.specs.Packed.{bitAt, bytesFor, spareSet, Bytes, distance}
 use Rattle.packed_bits.proofs.Packing.{pack-cong, pack-bitAt}
 
@@ -29,7 +29,8 @@ unfolding distance
 distance-triangle n c c′ z z′ =
     omega (
       arith,
-      sum-le n {f = λ j. differ (c j) (c′ j)} {g = λ j. differ (z j) (c j) + differ (z j) (z′ j) + differ (z′ j) (c′ j)} (λ j l. differ-triangle (c j) (c′ j) (z j) (z′ j)),
+      sum-le n {f = λ j. differ (c j) (c′ j)} {g = λ j. differ (z j) (c j) + differ (z j) (z′ j) + differ (z′ j) (c′ j)}
+          (λ j l. differ-triangle (c j) (c′ j) (z j) (z′ j)),
       sum-add n (λ j. differ (z j) (c j) + differ (z j) (z′ j)) (λ j. differ (z′ j) (c′ j)),
       sum-add n (λ j. differ (z j) (c j)) (λ j. differ (z j) (z′ j)),
     )
@@ -57,6 +58,7 @@ distance-spare n k z c h =
     omega (arith, sum-append n k (λ j. differ (z j) (c j)))
 
 -- words without a difference and with clear spare places are the same bytes
-pub words-equal : (n : ℕ) (w w′ : List ℕ) → Bytes w → Bytes w′ → length w ≡ bytesFor n → length w′ ≡ bytesFor n → spareSet n w ≡ false → spareSet n w′ ≡ false → distance n (bitAt w) (bitAt w′) ≡ 0 → w ≡ w′
+pub words-equal : (n : ℕ) (w w′ : List ℕ) → Bytes w → Bytes w′ → length w ≡ bytesFor n → length w′ ≡ bytesFor n
+    → spareSet n w ≡ false → spareSet n w′ ≡ false → distance n (bitAt w) (bitAt w′) ≡ 0 → w ≡ w′
 words-equal n w w′ b b′ l l′ s s′ d =
     sym (pack-bitAt n w b l s) ∙ pack-cong n (bitAt w) (bitAt w′) (distance-agree n (bitAt w) (bitAt w′) d) ∙ pack-bitAt n w′ b′ l′ s′

@@ -27,7 +27,11 @@ module _ {f : ℕ → ℤ} {b : ℕ → ℕ} {ls : List ℤ} {bs : List ℕ} whe
       → Stored f b k ls ls′ bs bs′ → Stored f b (k + 1) ls (set ls′ k v) bs (set bs′ k h)
   stored-more {k} {ls′} {bs′} {v} {h} room cells e q p =
       record {
-        levels = ap (λ (x : ℤ). set ls′ k x) e ∙ ap (λ (l : List ℤ). set l k (f k)) (p .levels) ∙ over-more k f ls room ∙ ap (λ (n : ℕ). over (listed n f) ls) (sym (add-one k));
+        levels =
+            ap (λ (x : ℤ). set ls′ k x) e
+            ∙ ap (λ (l : List ℤ). set l k (f k)) (p .levels)
+            ∙ over-more k f ls room
+            ∙ ap (λ (n : ℕ). over (listed n f) ls) (sym (add-one k));
         broad = length-set ls′ k v ∙ p .broad;
         long = length-set bs′ k h ∙ p .long;
         each = λ j l. elim (ℕ-discrete j k) [

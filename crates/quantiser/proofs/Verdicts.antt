@@ -102,7 +102,10 @@ module _ {S : Choice} {xs : List Float} {ls : List ℤ} {w : List ℕ} where
       record {
         answer = sym e;
         levels = f .levels ∙ sym (ap (λ (v : Verdict). written v (levelsOf S xs) ls) e);
-        word = q ∙ ap (λ (z : List ℕ). over z w) (pack-cong (length xs) (at bs′) (hardBit xs) (f .each)) ∙ sym (ap (λ (v : Verdict). written v (hardWord xs) w) e);
+        word =
+            q
+            ∙ ap (λ (z : List ℕ). over z w) (pack-cong (length xs) (at bs′) (hardBit xs) (f .each))
+            ∙ sym (ap (λ (v : Verdict). written v (hardWord xs) w) e);
       }
 
 -- ---- no samples

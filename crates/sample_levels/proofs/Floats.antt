@@ -53,7 +53,8 @@ fields-high : (s : Bool) (f t : ℕ) → t < 8388608 → T (finite (ofFields bin
 unfolding ofFields
 fields-high s f t h = go (eqb (suc f) 255) (eqb t 0)
   where
-    go : (a b : Bool) → T (finite (cond a (cond b (inf s) nan) (odd 24 s (8388608 + t) f 149))) → Apart (cond a (cond b (inf s) nan) (odd 24 s (8388608 + t) f 149)) s (8388608 + t) f
+    go : (a b : Bool) → T (finite (cond a (cond b (inf s) nan) (odd 24 s (8388608 + t) f 149)))
+        → Apart (cond a (cond b (inf s) nan) (odd 24 s (8388608 + t) f 149)) s (8388608 + t) f
     go true true i = absurd i
     go true false i = absurd i
     go false b i = apart _ s (8388608 + t) f (odd-sign 24 s (8388608 + t) f 149) (record { below = omega arith; lead = λ l. omega arith })
@@ -64,7 +65,8 @@ low-apart b z =
     subst (λ (f : ℕ). Apart (ofFields binary32 (leb 2147483648 b) f (b % 8388608)) (leb 2147483648 b) (b % 8388608) 0) (sym z)
     (fields-low (leb 2147483648 b) (b % 8388608) (omega arith))
 
-pub high-apart : (b : ℕ) → T (finite (ofBits binary32 b)) → (b % 2147483648 / 8388608 ≡ 0 → ⊥) → Apart (ofBits binary32 b) (leb 2147483648 b) (8388608 + b % 8388608) (b % 2147483648 / 8388608 - 1)
+pub high-apart : (b : ℕ) → T (finite (ofBits binary32 b)) → (b % 2147483648 / 8388608 ≡ 0 → ⊥)
+    → Apart (ofBits binary32 b) (leb 2147483648 b) (8388608 + b % 8388608) (b % 2147483648 / 8388608 - 1)
 unfolding ofBits
 high-apart b h n = go (b % 2147483648 / 8388608) n h
   where

@@ -1,7 +1,8 @@
 -- The nearest whole number to a fraction: by the difference of two shifts, of which at most 27 places count, and within 64 bits. Assumes nothing.
 use mathlib.Core.Path.{_≡_, sym, ap, ap₂, _∙_}
 use Prim.Native.Nat.{ℕ, zero, suc, _+_, _-_, _*_, _/_, _%_, _^_, _≤_, _<_, min}
-use native.Mathlib.Nat.{add-mul, mul-assoc, mul-comm, mul-one, mul-left-comm, mul-div-cancel, div-div-eq-div-mul, sub-zero, zero-sub, zero-mul, zero-div, zero-lt-suc, mul-le-mul, mul-le-mul-right, le-of-lt, lt-of-lt-of-le, div-eq-of-lt, le-div-iff-mul-le, mul-pos}
+use native.Mathlib.Nat.{add-mul, mul-assoc, mul-comm, mul-one, mul-left-comm, mul-div-cancel, div-div-eq-div-mul, sub-zero, zero-sub, zero-mul}
+use native.Mathlib.Nat.{zero-div, zero-lt-suc, mul-le-mul, mul-le-mul-right, le-of-lt, lt-of-lt-of-le, div-eq-of-lt, le-div-iff-mul-le, mul-pos}
 use native.Mathlib.Decide.{decLt}
 use native.Mathlib.Omega.{arith}
 use lib.Dec.{lit≤}
@@ -28,7 +29,8 @@ shrink (suc x) c (suc (suc t)) h l = absurd (many t l)
 scale : (n d c : ℕ) → 0 < c → nearest (n * c) (d * c) ≡ nearest n d
 unfolding nearest
 scale n d c h =
-    ap₂ (λ (x y : ℕ). (x - tie) / y) (ap (λ (x : ℕ). x + d * c) (sym (mul-assoc 2 n c)) ∙ sym (add-mul (2 * n) d c)) (sym (mul-assoc 2 d c) ∙ mul-comm (2 * d) c)
+    ap₂ (λ (x y : ℕ). (x - tie) / y)
+    (ap (λ (x : ℕ). x + d * c) (sym (mul-assoc 2 n c)) ∙ sym (add-mul (2 * n) d c)) (sym (mul-assoc 2 d c) ∙ mul-comm (2 * d) c)
     ∙ sym (div-div-eq-div-mul ((2 * n + d) * c - tie) c (2 * d))
     ∙ ap (λ (x : ℕ). x / (2 * d)) (shrink (2 * n + d) c tie h (lit≤ tt))
 

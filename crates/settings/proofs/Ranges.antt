@@ -12,7 +12,8 @@ use lib.Ieee.Scale.{finite}
 use lib.ListN.{length, getD}
 use borrow.Author.Tests.{leb-true, le-leb, not-false}
 use Rattle.counting.proofs.Searches.{and-left, and-right, first-clear}
-use Rattle.sample_levels.specs.Samples.{Choice, units, negative, mostBits, settingFits, largest, gain, nearest, magnitude, signed, levelOf, hardOf, hardBit, notFinite, firstNotFinite}
+use Rattle.sample_levels.specs.Samples.{Choice, units, negative, mostBits, settingFits, largest, gain, nearest, magnitude, signed, levelOf}
+use Rattle.sample_levels.specs.Samples.{hardOf, hardBit, notFinite, firstNotFinite}
 use Rattle.settings.specs.Ranges.{InRange}
 
 -- ---- refusal 6

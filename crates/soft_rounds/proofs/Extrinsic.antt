@@ -73,7 +73,8 @@ module _ (H : Matrix) (r : Rows H) (z : ℕ → ℕ) (j : ℕ) where
   unfolding extrinsic weight
   extrinsic-zero e =
       sumℤ-difference (H .m) (λ i. 2 * (has H i j * fails H z i)) (λ i. has H i j)
-      (λ i l. part-zero (has H i j) (others H z i j) (fails H z i) (has-le H r i j l) (fails-by H z i j ∙ ap (λ (b : ℕ). (others H z i j + has H i j * b) % 2) e))
+      (λ i l. part-zero (has H i j) (others H z i j) (fails H z i) (has-le H r i j l)
+      (fails-by H z i j ∙ ap (λ (b : ℕ). (others H z i j + has H i j * b) % 2) e))
       ∙ ap (λ (x : ℕ). subℕ x (sum (H .m) (λ i. has H i j))) twice
 
   -- a bit 1: a failing check of it says 0, and the others say 1
@@ -81,7 +82,8 @@ module _ (H : Matrix) (r : Rows H) (z : ℕ → ℕ) (j : ℕ) where
   unfolding extrinsic weight
   extrinsic-one e =
       sumℤ-difference (H .m) (λ i. has H i j) (λ i. 2 * (has H i j * fails H z i))
-      (λ i l. part-one (has H i j) (others H z i j) (fails H z i) (has-le H r i j l) (fails-by H z i j ∙ ap (λ (b : ℕ). (others H z i j + has H i j * b) % 2) e))
+      (λ i l. part-one (has H i j) (others H z i j) (fails H z i) (has-le H r i j l)
+      (fails-by H z i j ∙ ap (λ (b : ℕ). (others H z i j + has H i j * b) % 2) e))
       ∙ ap (subℕ (sum (H .m) (λ i. has H i j))) twice
 
 -- ---- "So E lies from −γ to γ"
@@ -104,4 +106,5 @@ pub extrinsic-cong : (H : Matrix) → Rows H → (z c : ℕ → ℕ) → ((j : �
 unfolding extrinsic others
 extrinsic-cong H r z c e j =
     sumℤ-cong (H .m)
-    (λ i l. ap (λ (x : ℕ). pos (has H i j) *ℤ sign (x % 2)) (sum-cong (H .rho) (λ k h. ap (λ (x : ℕ). differ (entry H i k) j * x) (e (entry H i k) (r .below i k l h)))))
+    (λ i l. ap (λ (x : ℕ). pos (has H i j) *ℤ sign (x % 2))
+    (sum-cong (H .rho) (λ k h. ap (λ (x : ℕ). differ (entry H i k) j * x) (e (entry H i k) (r .below i k l h)))))

@@ -57,14 +57,16 @@ unfolding ofRows sum
 rows-none l rho rows v e = record { long = e; each = λ j. omega arith }
 
 -- the next row has room for its votes
-pub rows-next : (l : List ℕ) (rho : ℕ) (rows : List ℕ) (t q : ℕ) (old mid : List ℕ) → q < t → Room (ofRows l rho rows t) old → More (ofRows l rho rows q) old mid
+pub rows-next : (l : List ℕ) (rho : ℕ) (rows : List ℕ) (t q : ℕ) (old mid : List ℕ) → q < t → Room (ofRows l rho rows t) old
+    → More (ofRows l rho rows q) old mid
     → Room (among l (at rows q * rho) rho) mid
 unfolding ofRows
 rows-next l rho rows t q old mid h r m =
     record { long = m .long; fits = λ j. omega (arith, m .each j, r .fits j, sum-next q t (λ p. among l (at rows p * rho) rho j) h) }
 
 -- one row more
-pub rows-step : (l : List ℕ) (rho : ℕ) (rows : List ℕ) (q : ℕ) (old mid new : List ℕ) → More (ofRows l rho rows q) old mid → More (among l (at rows q * rho) rho) mid new
+pub rows-step : (l : List ℕ) (rho : ℕ) (rows : List ℕ) (q : ℕ) (old mid new : List ℕ) → More (ofRows l rho rows q) old mid
+    → More (among l (at rows q * rho) rho) mid new
     → More (ofRows l rho rows (q + 1)) old new
 unfolding ofRows sum
 rows-step l rho rows q old mid new t u =

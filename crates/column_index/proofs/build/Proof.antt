@@ -19,7 +19,9 @@ cast-m : tie.Need-cast-m Inv-loop μ-loop
 cast-m c = omega (arith, c .before .before .before .pre .0 .sizes .m-most)
 
 loop-holds : tie.Need-loop-holds Inv-loop μ-loop
-loop-holds c = let s = c .before .before .before in (omega arith, filled-none (matrixOf (s .args .shape) (s .args .list .now)) (s .pre .0) (s .args .index .now) (s .pre .1))
+loop-holds c =
+    let s = c .before .before .before in
+    (omega arith, filled-none (matrixOf (s .args .shape) (s .args .list .now)) (s .pre .0) (s .args .index .now) (s .pre .1))
 
 slice-aggregate-place-row : tie.Need-slice-aggregate-place-row Inv-loop μ-loop
 slice-aggregate-place-row c = sym (c .before .before .loop .inv .1 .long-counts)
@@ -40,7 +42,10 @@ same-length : tie.Need-same-length Inv-loop μ-loop
 same-length c = c .before .loop .inv .1 .long ∙ sym (c .before .before .before .before .before .pre .1)
 
 returns : tie.Need-returns Inv-loop μ-loop
-returns c = let s = c .before .before .before .before .before in filled-all (matrixOf (s .args .shape) (s .args .list .now)) (s .pre .0) (c .before .loop .counts) _ (rw (le-antisymm (c .before .loop .inv .0) (omega arith)) at (c .before .loop .inv .1))
+returns c =
+    let s = c .before .before .before .before .before in
+    filled-all (matrixOf (s .args .shape) (s .args .list .now)) (s .pre .0) (c .before .loop .counts) _
+    (rw (le-antisymm (c .before .loop .inv .0) (omega arith)) at (c .before .loop .inv .1))
 
 pub build-spec : {M : Type 1} → statement M
 build-spec =

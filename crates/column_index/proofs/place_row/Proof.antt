@@ -3,9 +3,10 @@ use Prim.Native.Nat.{_-_, _≤_}
 use mathlib.Core.Path.{sym, _∙_}
 use native.Mathlib.Nat.{le-antisymm}
 use native.Mathlib.Omega.{arith}
+use Rattle.parity_check.specs.Code.{Matrix}
 use Rattle.parity_check.specs.Shapes.{matrixOf}
 use Rattle.column_index.specs.Index.{Filled}
-use Rattle.column_index.proofs.Filling.{spot-of, filled-next, filled-row}
+use Rattle.column_index.proofs.Filling.{Spot, spot-of, filled-next, filled-row}
 use Rattle.column_index.proofs.place_row.Statement.{statement}
 use Rattle.column_index.proofs.place_row.Tie as tie
 
@@ -14,6 +15,18 @@ Inv-loop shape list i counts₀ index₀ rho k₀ counts index k = (k ≤ rho) �
 
 abbrev μ-loop : tie.MeasureT-loop
 μ-loop shape list i counts₀ index₀ rho k₀ counts index k = rho - k
+
+-- the matrix that is lent
+abbrev lent : tie.Start Inv-loop μ-loop → Matrix
+lent s = matrixOf (s .args .shape) (s .args .list .now)
+
+-- where the next entry goes, once there is one
+spot : (c : tie.In-loop Inv-loop μ-loop)
+    → Spot (lent (c .before .before .before)) (c .before .before .before .args .i) (c .before .loop .k) (c .before .loop .counts)
+spot c =
+    let s = c .before .before .before in
+    let l = c .before .loop in
+    spot-of (lent s) (s .pre .0) (s .args .i) (l .k) (l .counts) (l .index) (s .pre .1) (omega arith) (l .inv .1)
 
 cast-rho : tie.Need-cast-rho Inv-loop μ-loop
 cast-rho c = omega (arith, c .before .pre .0 .sizes .rho-most)
@@ -25,55 +38,57 @@ cast-gamma : tie.Need-cast-gamma Inv-loop μ-loop
 cast-gamma c = omega (arith, c .before .before .before .before .pre .0 .sizes .gamma-most)
 
 mul-j : tie.Need-mul-j Inv-loop μ-loop
-mul-j c = omega (arith, spot-of (matrixOf (c .before .before .before .before .args .shape) (c .before .before .before .before .args .list .now)) (c .before .before .before .before .pre .0) (c .before .before .before .before .args .i) (c .before .before .loop .k) (c .before .before .loop .counts) (c .before .before .loop .index) (c .before .before .before .before .pre .1) (omega arith) (c .before .before .loop .inv .1) .few)
+mul-j c = omega (arith, spot (c .before) .few)
 
 add-j : tie.Need-add-j Inv-loop μ-loop
-add-j c = omega (arith, spot-of (matrixOf (c .before .before .before .before .args .shape) (c .before .before .before .before .args .list .now)) (c .before .before .before .before .pre .0) (c .before .before .before .before .args .i) (c .before .before .loop .k) (c .before .before .loop .counts) (c .before .before .loop .index) (c .before .before .before .before .pre .1) (omega arith) (c .before .before .loop .inv .1) .few)
+add-j c = omega (arith, spot (c .before) .few)
 
 mul-j-2 : tie.Need-mul-j-2 Inv-loop μ-loop
-mul-j-2 c = omega (arith, spot-of (matrixOf (c .before .before .before .before .args .shape) (c .before .before .before .before .args .list .now)) (c .before .before .before .before .pre .0) (c .before .before .before .before .args .i) (c .before .before .loop .k) (c .before .before .loop .counts) (c .before .before .loop .index) (c .before .before .before .before .pre .1) (omega arith) (c .before .before .loop .inv .1) .few)
+mul-j-2 c = omega (arith, spot (c .before) .few)
 
 shared-slice-read-j : tie.Need-shared-slice-read-j Inv-loop μ-loop
-shared-slice-read-j c = spot-of (matrixOf (c .before .before .before .before .before .args .shape) (c .before .before .before .before .before .args .list .now)) (c .before .before .before .before .before .pre .0) (c .before .before .before .before .before .args .i) (c .before .before .before .loop .k) (c .before .before .before .loop .counts) (c .before .before .before .loop .index) (c .before .before .before .before .before .pre .1) (omega arith) (c .before .before .before .loop .inv .1) .place
+shared-slice-read-j c = spot (c .before .before) .place
 
 cast-j : tie.Need-cast-j Inv-loop μ-loop
-cast-j c = omega (arith, spot-of (matrixOf (c .before .before .before .before .before .args .shape) (c .before .before .before .before .before .args .list .now)) (c .before .before .before .before .before .pre .0) (c .before .before .before .before .before .args .i) (c .before .before .before .loop .k) (c .before .before .before .loop .counts) (c .before .before .before .loop .index) (c .before .before .before .before .before .pre .1) (omega arith) (c .before .before .before .loop .inv .1) .column)
+cast-j c = omega (arith, spot (c .before .before) .column)
 
 mul-c : tie.Need-mul-c Inv-loop μ-loop
-mul-c c = omega (arith, spot-of (matrixOf (c .before .before .before .before .before .args .shape) (c .before .before .before .before .before .args .list .now)) (c .before .before .before .before .before .pre .0) (c .before .before .before .before .before .args .i) (c .before .before .before .loop .k) (c .before .before .before .loop .counts) (c .before .before .before .loop .index) (c .before .before .before .before .before .pre .1) (omega arith) (c .before .before .before .loop .inv .1) .column)
+mul-c c = omega (arith, spot (c .before .before) .column)
 
 slice-read-c : tie.Need-slice-read-c Inv-loop μ-loop
-slice-read-c c = omega (arith, spot-of (matrixOf (c .before .before .before .before .before .before .args .shape) (c .before .before .before .before .before .before .args .list .now)) (c .before .before .before .before .before .before .pre .0) (c .before .before .before .before .before .before .args .i) (c .before .before .before .before .loop .k) (c .before .before .before .before .loop .counts) (c .before .before .before .before .loop .index) (c .before .before .before .before .before .before .pre .1) (omega arith) (c .before .before .before .before .loop .inv .1) .column, c .before .before .before .before .loop .inv .1 .long-counts)
+slice-read-c c = omega (arith, spot (c .before .before .before) .column, c .before .before .before .before .loop .inv .1 .long-counts)
 
 cast-c : tie.Need-cast-c Inv-loop μ-loop
-cast-c c = omega (arith, spot-of (matrixOf (c .before .before .before .before .before .before .args .shape) (c .before .before .before .before .before .before .args .list .now)) (c .before .before .before .before .before .before .pre .0) (c .before .before .before .before .before .before .args .i) (c .before .before .before .before .loop .k) (c .before .before .before .before .loop .counts) (c .before .before .before .before .loop .index) (c .before .before .before .before .before .before .pre .1) (omega arith) (c .before .before .before .before .loop .inv .1) .free)
+cast-c c = omega (arith, spot (c .before .before .before) .free)
 
 cast-index : tie.Need-cast-index Inv-loop μ-loop
-cast-index c = omega (arith, c .before .before .before .before .before .before .pre .1, c .before .before .before .before .before .before .pre .0 .sizes .m-most)
+cast-index c =
+    let s = c .before .before .before .before .before .before in
+    omega (arith, s .pre .1, s .pre .0 .sizes .m-most)
 
 mul-index : tie.Need-mul-index Inv-loop μ-loop
-mul-index c = omega (arith, spot-of (matrixOf (c .before .before .before .before .before .before .args .shape) (c .before .before .before .before .before .before .args .list .now)) (c .before .before .before .before .before .before .pre .0) (c .before .before .before .before .before .before .args .i) (c .before .before .before .before .loop .k) (c .before .before .before .before .loop .counts) (c .before .before .before .before .loop .index) (c .before .before .before .before .before .before .pre .1) (omega arith) (c .before .before .before .before .loop .inv .1) .spot)
+mul-index c = omega (arith, spot (c .before .before .before) .spot)
 
 add-index : tie.Need-add-index Inv-loop μ-loop
-add-index c = omega (arith, spot-of (matrixOf (c .before .before .before .before .before .before .args .shape) (c .before .before .before .before .before .before .args .list .now)) (c .before .before .before .before .before .before .pre .0) (c .before .before .before .before .before .before .args .i) (c .before .before .before .before .loop .k) (c .before .before .before .before .loop .counts) (c .before .before .before .before .loop .index) (c .before .before .before .before .before .before .pre .1) (omega arith) (c .before .before .before .before .loop .inv .1) .spot)
+add-index c = omega (arith, spot (c .before .before .before) .spot)
 
 mul-index-2 : tie.Need-mul-index-2 Inv-loop μ-loop
-mul-index-2 c = omega (arith, spot-of (matrixOf (c .before .before .before .before .before .before .args .shape) (c .before .before .before .before .before .before .args .list .now)) (c .before .before .before .before .before .before .pre .0) (c .before .before .before .before .before .before .args .i) (c .before .before .before .before .loop .k) (c .before .before .before .before .loop .counts) (c .before .before .before .before .loop .index) (c .before .before .before .before .before .before .pre .1) (omega arith) (c .before .before .before .before .loop .inv .1) .spot)
+mul-index-2 c = omega (arith, spot (c .before .before .before) .spot)
 
 slice-write-index : tie.Need-slice-write-index Inv-loop μ-loop
-slice-write-index c = omega (arith, spot-of (matrixOf (c .before .before .before .before .before .before .args .shape) (c .before .before .before .before .before .before .args .list .now)) (c .before .before .before .before .before .before .pre .0) (c .before .before .before .before .before .before .args .i) (c .before .before .before .before .loop .k) (c .before .before .before .before .loop .counts) (c .before .before .before .before .loop .index) (c .before .before .before .before .before .before .pre .1) (omega arith) (c .before .before .before .before .loop .inv .1) .spot, c .before .before .before .before .loop .inv .1 .long)
+slice-write-index c = omega (arith, spot (c .before .before .before) .spot, c .before .before .before .before .loop .inv .1 .long)
 
 add-counts : tie.Need-add-counts Inv-loop μ-loop
-add-counts c = omega (arith, spot-of (matrixOf (c .before .before .before .before .before .before .args .shape) (c .before .before .before .before .before .before .args .list .now)) (c .before .before .before .before .before .before .pre .0) (c .before .before .before .before .before .before .args .i) (c .before .before .before .before .loop .k) (c .before .before .before .before .loop .counts) (c .before .before .before .before .loop .index) (c .before .before .before .before .before .before .pre .1) (omega arith) (c .before .before .before .before .loop .inv .1) .free)
+add-counts c = omega (arith, spot (c .before .before .before) .free)
 
 cast-counts : tie.Need-cast-counts Inv-loop μ-loop
-cast-counts c = omega (arith, spot-of (matrixOf (c .before .before .before .before .before .before .args .shape) (c .before .before .before .before .before .before .args .list .now)) (c .before .before .before .before .before .before .pre .0) (c .before .before .before .before .before .before .args .i) (c .before .before .before .before .loop .k) (c .before .before .before .before .loop .counts) (c .before .before .before .before .loop .index) (c .before .before .before .before .before .before .pre .1) (omega arith) (c .before .before .before .before .loop .inv .1) .free)
+cast-counts c = omega (arith, spot (c .before .before .before) .free)
 
 mul-counts : tie.Need-mul-counts Inv-loop μ-loop
-mul-counts c = omega (arith, spot-of (matrixOf (c .before .before .before .before .before .before .args .shape) (c .before .before .before .before .before .before .args .list .now)) (c .before .before .before .before .before .before .pre .0) (c .before .before .before .before .before .before .args .i) (c .before .before .before .before .loop .k) (c .before .before .before .before .loop .counts) (c .before .before .before .before .loop .index) (c .before .before .before .before .before .before .pre .1) (omega arith) (c .before .before .before .before .loop .inv .1) .column)
+mul-counts c = omega (arith, spot (c .before .before .before) .column)
 
 slice-write-counts : tie.Need-slice-write-counts Inv-loop μ-loop
-slice-write-counts c = omega (arith, spot-of (matrixOf (c .before .before .before .before .before .before .args .shape) (c .before .before .before .before .before .before .args .list .now)) (c .before .before .before .before .before .before .pre .0) (c .before .before .before .before .before .before .args .i) (c .before .before .before .before .loop .k) (c .before .before .before .before .loop .counts) (c .before .before .before .before .loop .index) (c .before .before .before .before .before .before .pre .1) (omega arith) (c .before .before .before .before .loop .inv .1) .column, c .before .before .before .before .loop .inv .1 .long-counts)
+slice-write-counts c = omega (arith, spot (c .before .before .before) .column, c .before .before .before .before .loop .inv .1 .long-counts)
 
 add-k : tie.Need-add-k Inv-loop μ-loop
 add-k c = omega (arith, c .before .before .before .before .before .before .pre .0 .sizes .rho-most)
@@ -82,7 +97,10 @@ loop-less : tie.Need-loop-less Inv-loop μ-loop
 loop-less c = omega arith
 
 loop-again : tie.Need-loop-again Inv-loop μ-loop
-loop-again c = (omega arith, filled-next (matrixOf (c .before .before .before .before .before .before .args .shape) (c .before .before .before .before .before .before .args .list .now)) (c .before .before .before .before .before .before .pre .0) (c .before .before .before .before .before .before .args .i) (c .before .before .before .before .loop .k) (c .before .before .before .before .loop .counts) (c .before .before .before .before .loop .index) (c .before .before .before .before .before .before .pre .1) (omega arith) (c .before .before .before .before .loop .inv .1))
+loop-again c =
+    let s = c .before .before .before .before .before .before in
+    let l = c .before .before .before .before .loop in
+    (omega arith, filled-next (lent s) (s .pre .0) (s .args .i) (l .k) (l .counts) (l .index) (s .pre .1) (omega arith) (l .inv .1))
 
 same-length : tie.Need-same-length Inv-loop μ-loop
 same-length c = c .before .loop .inv .1 .long-counts ∙ sym (c .before .before .before .pre .2 .long-counts)
@@ -91,7 +109,9 @@ same-length-2 : tie.Need-same-length-2 Inv-loop μ-loop
 same-length-2 c = c .before .loop .inv .1 .long ∙ sym (c .before .before .before .pre .2 .long)
 
 returns : tie.Need-returns Inv-loop μ-loop
-returns c = filled-row (matrixOf (c .before .before .before .args .shape) (c .before .before .before .args .list .now)) (c .before .before .before .pre .0) _ _ _ (rw (le-antisymm (c .before .loop .inv .0) (omega arith)) at (c .before .loop .inv .1))
+returns c =
+    let s = c .before .before .before in
+    filled-row (lent s) (s .pre .0) _ _ _ (rw (le-antisymm (c .before .loop .inv .0) (omega arith)) at (c .before .loop .inv .1))
 
 pub place-row-spec : {M : Type 1} → statement M
 place-row-spec =

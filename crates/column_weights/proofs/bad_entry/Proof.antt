@@ -48,7 +48,8 @@ returns-3 : tie.Need-returns-3
 unfolding badEntry
 returns-3 c =
     let a = c .before .before .before .before .args in
-    let z : ltb 0 (a .p % a .shape .rho) ≡ true = lt-ltb 0 (a .p % a .shape .rho) (omega (arith, c .before .before .before .before .pre .1, c .before .if2 .left)) in
+    let z : ltb 0 (a .p % a .shape .rho) ≡ true =
+    lt-ltb 0 (a .p % a .shape .rho) (omega (arith, c .before .before .before .before .pre .1, c .before .if2 .left)) in
     simp (lt-leb _ _ (c .before .before .if1 .left), z)
 
 pub bad-entry-spec : {M : Type 1} → statement M

@@ -79,7 +79,8 @@ loop-again c =
     let b = c .before .before .before .before .before .before .before .before .before .before in
     let H = matrixOf (b .args .shape) (b .args .list .now) in
     let l = c .before .before .before .before .before .before .before .loop in
-    let good : badEntry H (l .p) ≡ false = sym (c .before .before .before .before .before .bad-entry .ensures) ∙ c .before .before .before .before .if1 .left in (
+    let good : badEntry H (l .p) ≡ false =
+    sym (c .before .before .before .before .before .bad-entry .ensures) ∙ c .before .before .before .before .if1 .left in (
       omega arith,
       c .next-place .ensures ∙ ap (λ (x : ℕ). (x + 1) % b .args .shape .rho) (l .inv .1) ∙ mod-add-mod (l .p) (b .args .shape .rho) 1,
       tally-more (listAt H) (l .p) (listAt H (l .p)) (l .weights) (c .before .count .last .0) (l .inv .2) refl

@@ -1,4 +1,5 @@
--- `packed_bits::spare_set` meets its contract. The loop's invariant: of the spare places, all but the last `left` were tested, and none of those is set. Assumes nothing.
+-- `packed_bits::spare_set` meets its contract. The loop's invariant: of the spare places, all but the last `left` were tested,
+-- and none of those is set. Assumes nothing.
 use mathlib.Core.Bool.{false}
 use mathlib.Core.Path.{_≡_, sym, _∙_}
 use Prim.Native.Nat.{ℕ, _+_, _*_, _-_, _≤_}
@@ -36,7 +37,8 @@ returns : tie.Need-returns Inv-loop μ-loop
 returns c =
     let s = c .before .before .before .before .before in
     let l = c .before .before .before .loop in
-    spare-found (s .args .n) (s .args .w .now) (8 * length (s .args .w .now) - l .left) (omega arith) (omega (arith, s .pre .0)) (sym (c .before .get-bit .ensures) ∙ c .if1 .taken)
+    spare-found (s .args .n) (s .args .w .now) (8 * length (s .args .w .now) - l .left) (omega arith) (omega (arith, s .pre .0))
+    (sym (c .before .get-bit .ensures) ∙ c .if1 .taken)
 
 sub-left-2 : tie.Need-sub-left-2 Inv-loop μ-loop
 sub-left-2 c = omega arith
@@ -48,8 +50,11 @@ loop-again : tie.Need-loop-again Inv-loop μ-loop
 loop-again c =
     let a = c .before .before .before .before .before .args in
     let l = c .before .before .before .loop in
-    let end : ℕ = 8 * length (a .w .now) in
-    (omega arith, spare-more (a .n) (a .w .now) (end - l .left) (end - (l .left - 1)) (omega arith) (omega arith) (l .inv .1) (λ e. c .if1 .left (c .before .get-bit .ensures ∙ e)))
+    let end : ℕ = 8 * length (a .w .now) in (
+      omega arith,
+      spare-more (a .n) (a .w .now) (end - l .left) (end - (l .left - 1)) (omega arith) (omega arith) (l .inv .1)
+          (λ e. c .if1 .left (c .before .get-bit .ensures ∙ e)),
+    )
 
 returns-2 : tie.Need-returns-2 Inv-loop μ-loop
 returns-2 c =

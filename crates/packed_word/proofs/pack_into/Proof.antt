@@ -1,4 +1,5 @@
--- `packed_word::pack_into` meets its contract. The loop's invariant: w is as it was, but for its first q bytes, which are those of the packed word. Assumes nothing.
+-- `packed_word::pack_into` meets its contract. The loop's invariant: w is as it was, but for its first q bytes,
+-- which are those of the packed word. Assumes nothing.
 use mathlib.Core.Path.{_≡_, refl, sym, ap, _∙_}
 use Prim.Native.Nat.{ℕ, _-_, _≤_}
 use native.Mathlib.Omega.{arith}
@@ -42,7 +43,11 @@ loop-again c =
     let s = c .before .before .before .before in
     let a = s .args in
     let l = c .before .before .loop in
-    (omega arith, length-set (l .w) (l .q) (c .packed-byte .result) ∙ l .inv .1, over-next (packedByte (a .n) (at (a .bits .now))) (a .w .now) (l .w) (l .q) (c .packed-byte .result) (omega (arith, s .pre .1)) (c .packed-byte .ensures) (l .inv .2))
+    let byte = c .packed-byte .result in (
+      omega arith,
+      length-set (l .w) (l .q) byte ∙ l .inv .1,
+      over-next (packedByte (a .n) (at (a .bits .now))) (a .w .now) (l .w) (l .q) byte (omega (arith, s .pre .1)) (c .packed-byte .ensures) (l .inv .2),
+    )
 
 same-length : tie.Need-same-length Inv-loop μ-loop
 same-length c = omega arith

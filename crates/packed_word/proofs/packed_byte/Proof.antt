@@ -45,7 +45,10 @@ loop-again : tie.Need-loop-again Inv-loop μ-loop
 loop-again c =
     let a = c .before .before .before .before .args in
     let l = c .before .before .before .loop in
-    (omega arith, binary-more (eight (a .n) (at (a .bits .now)) (a .q)) (l .i) (l .b) (c .before .bit-or-zero .result) (c .with-bit .result) (l .inv .1) (c .before .bit-or-zero .ensures) (c .with-bit .ensures))
+    let b = c .before .bit-or-zero in (
+      omega arith,
+      binary-more (eight (a .n) (at (a .bits .now)) (a .q)) (l .i) (l .b) (b .result) (c .with-bit .result) (l .inv .1) (b .ensures) (c .with-bit .ensures),
+    )
 
 returns : tie.Need-returns Inv-loop μ-loop
 returns c =

@@ -1,4 +1,5 @@
--- `packed_word::unpack_cells` meets its contract. The loop's invariant: the first j cells are the word's first j bits, and the others are as they were. Assumes nothing.
+-- `packed_word::unpack_cells` meets its contract. The loop's invariant: the first j cells are the word's first j bits,
+-- and the others are as they were. Assumes nothing.
 use mathlib.Core.Path.{_≡_, subst}
 use Prim.Native.Nat.{ℕ, _-_, _≤_}
 use native.Mathlib.Omega.{arith}

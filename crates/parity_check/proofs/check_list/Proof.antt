@@ -22,12 +22,12 @@ abbrev lent : tie.Start → Matrix
 lent b = matrixOf (b .args .shape) (b .args .list .now)
 
 -- no entry is bad after the first test
-clear : (c : tie.Else1) → Never (BadEntry (lent (c .before .before .before .before .before .before))) (length (lent (c .before .before .before .before .before .before) .list))
+clear : (c : tie.Else1) → let H = lent (c .before .before .before .before .before .before) in Never (BadEntry H) (length (H .list))
 clear c = missed (entries _) _ (c .before .walk .result) (c .before .walk .ensures .place) (omega (arith, c .if1 .left))
 
 -- then the search among the weights that were counted is the search among the weights
 counted : (c : tie.After-first-off-weight)
-    → c .first-off-weight .result ≡ first (badWeight (lent (c .before .before .before .before .before .before .before .before))) (lent (c .before .before .before .before .before .before .before .before) .n)
+    → let H = lent (c .before .before .before .before .before .before .before .before) in c .first-off-weight .result ≡ first (badWeight H) (H .n)
 counted c =
     let b = c .before .before .before .before .before .before .before .before in
     let w = c .before .before .before .walk in
@@ -36,7 +36,7 @@ counted c =
     c .first-off-weight .ensures ∙ tally-off (lent b) (w .last .1 .1 .0) (b .pre .sizes .n-most) (b .pre .whole) (w .ensures .tallied e)
 
 -- and no weight is wrong after the second test
-even : (c : tie.Else2) → Never (BadWeight (lent (c .before .before .before .before .before .before .before .before .before))) (lent (c .before .before .before .before .before .before .before .before .before) .n)
+even : (c : tie.Else2) → let H = lent (c .before .before .before .before .before .before .before .before .before) in Never (BadWeight H) (H .n)
 even c = missed (weights _) _ (c .before .first-off-weight .result) (counted (c .before)) (omega (arith, c .if2 .left))
 
 cast-n : tie.Need-cast-n
@@ -67,7 +67,8 @@ returns-2 : tie.Need-returns-2
 returns-2 c =
     let b = c .before .before .before .before .before .before .before .before .before in
     reads-only (lent b) _
-    (weight-bad (b .pre .sizes) (b .pre .whole) (clear (c .before .before .before)) (found (weights (lent b)) _ (c .before .first-off-weight .result) (counted (c .before)) (c .if2 .taken)))
+    (weight-bad (b .pre .sizes) (b .pre .whole) (clear (c .before .before .before))
+    (found (weights (lent b)) _ (c .before .first-off-weight .result) (counted (c .before)) (c .if2 .taken)))
 
 first-overlap-requires : tie.Need-first-overlap-requires
 first-overlap-requires c κs =

@@ -14,7 +14,9 @@ cast-ones-by-row-2 : tie.Need-cast-ones-by-row-2
 cast-ones-by-row-2 c = search needs
 
 mul-ones-by-row : tie.Need-mul-ones-by-row
-mul-ones-by-row c = omega (arith, mul-le-mul {n₁ = c .before .before .args .shape .m} {m₁ = c .before .before .args .shape .rho} {n₂ = 65535} {m₂ = 65535} (omega arith) (omega arith))
+mul-ones-by-row c =
+    let s = c .before .before .args .shape in
+    omega (arith, mul-le-mul {n₁ = s .m} {m₁ = s .rho} {n₂ = 65535} {m₂ = 65535} (omega arith) (omega arith))
 
 cast-ones-by-column : tie.Need-cast-ones-by-column
 cast-ones-by-column c = search needs
@@ -23,7 +25,9 @@ cast-ones-by-column-2 : tie.Need-cast-ones-by-column-2
 cast-ones-by-column-2 c = search needs
 
 mul-ones-by-column : tie.Need-mul-ones-by-column
-mul-ones-by-column c = omega (arith, mul-le-mul {n₁ = c .before .before .before .before .args .shape .n} {m₁ = c .before .before .before .before .args .shape .gamma} {n₂ = 65535} {m₂ = 65535} (omega arith) (omega arith))
+mul-ones-by-column c =
+    let s = c .before .before .before .before .args .shape in
+    omega (arith, mul-le-mul {n₁ = s .n} {m₁ = s .gamma} {n₂ = 65535} {m₂ = 65535} (omega arith) (omega arith))
 
 in-range-requires : tie.Need-in-range-requires
 in-range-requires c κs = search needs

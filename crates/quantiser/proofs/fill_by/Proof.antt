@@ -1,4 +1,5 @@
--- `quantiser::fill_by` meets its contract. The invariant: the levels and the hard bits of the samples passed are stored, and the other cells stay. Assumes nothing.
+-- `quantiser::fill_by` meets its contract. The invariant: the levels and the hard bits of the samples passed are stored,
+-- and the other cells stay. Assumes nothing.
 use mathlib.Core.Path.{_≡_, subst, _∙_}
 use Prim.Native.Nat.{ℕ, _-_, _*_, _^_, _≤_}
 use native.Mathlib.Omega.{arith}
@@ -79,7 +80,8 @@ returns c =
     let xs = z .args .samples .now in
     let n : l .j ≡ length xs = omega arith in
     subst
-    (λ (k : ℕ). Stored (levelAt (s .gain) (s .top) (s .sig * 2 ^ s .shift) xs) (hardBit xs) k (z .args .levels .now) (l .levels) (z .args .cells .now) (l .cells))
+    (λ (k : ℕ). Stored (levelAt (s .gain) (s .top) (s .sig * 2 ^ s .shift) xs) (hardBit xs) k
+    (z .args .levels .now) (l .levels) (z .args .cells .now) (l .cells))
     n (l .inv .1)
 
 pub fill-by-spec : {M : Type 1} → statement M

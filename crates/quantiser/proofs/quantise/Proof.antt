@@ -1,4 +1,5 @@
--- `quantiser::quantise` meets its contract: each answer follows the tests that led to it, in the order of the verdict (`proofs/Verdicts.antt`). Assumes nothing.
+-- `quantiser::quantise` meets its contract: each answer follows the tests that led to it, in the order of the verdict
+-- (`proofs/Verdicts.antt`). Assumes nothing.
 use mathlib.Core.Path.{_≡_, sym, ap, _∙_}
 use mathlib.Core.Bool.{true, false}
 use Prim.Native.Nat.{_≤_}
@@ -13,7 +14,8 @@ use Rattle.sample_levels.specs.Samples.{settingFits, notFinite, firstNotFinite}
 use Rattle.settings.specs.Settings.{choiceOf}
 use Rattle.quantiser.specs.Filling.{tooShort}
 use Rattle.quantiser.proofs.Filling.{filled-bit}
-use Rattle.quantiser.proofs.Verdicts.{verdict-setting, verdict-buffer, verdict-sample, verdict-accepted, long-enough, quantised-refused, quantised-accepted}
+use Rattle.quantiser.proofs.Verdicts.{verdict-setting, verdict-buffer, verdict-sample, verdict-accepted, long-enough}
+use Rattle.quantiser.proofs.Verdicts.{quantised-refused, quantised-accepted}
 use Rattle.quantiser.proofs.quantise.Statement.{statement}
 use Rattle.quantiser.proofs.quantise.Tie as tie
 
@@ -22,10 +24,12 @@ fits : (c : tie.Else1) → settingFits (choiceOf (c .before .before .before .bef
 fits c = sym (c .before .setting-fits .ensures) ∙ not-false _ (c .if1 .left)
 
 -- past the second the buffers are long enough
-enough : (c : tie.Else2) → let a = c .before .before .before .before .before .before .args in tooShort (length (a .samples .now)) (length (a .levels .now)) (length (a .word .now)) ≡ false
+enough : (c : tie.Else2) → let a = c .before .before .before .before .before .before .args in
+    tooShort (length (a .samples .now)) (length (a .levels .now)) (length (a .word .now)) ≡ false
 enough c = sym (c .before .too-short .ensures) ∙ c .if2 .left
 
-wide : (c : tie.Else2) → let a = c .before .before .before .before .before .before .args in (length (a .samples .now) ≤ 1023) × (length (a .samples .now) ≤ length (a .levels .now)) × (bytesFor (length (a .samples .now)) ≤ length (a .word .now))
+wide : (c : tie.Else2) → let a = c .before .before .before .before .before .before .args in let n = length (a .samples .now) in
+    (n ≤ 1023) × (n ≤ length (a .levels .now)) × (bytesFor n ≤ length (a .word .now))
 wide c = long-enough _ _ _ (enough c)
 
 -- past the third every sample is finite

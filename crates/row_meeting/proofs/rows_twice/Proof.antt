@@ -1,4 +1,5 @@
--- `row_meeting::rows_twice` meets its contract. The loop's invariant: the part's rows passed are noted, and none has two columns in common with a later row passed. Assumes nothing.
+-- `row_meeting::rows_twice` meets its contract. The loop's invariant: the part's rows passed are noted, and none has two columns
+-- in common with a later row passed. Assumes nothing.
 use mathlib.Core.Path.{_≡_, refl, _∙_}
 use Prim.Native.Nat.{_-_, _≤_}
 use native.Mathlib.Omega.{arith}

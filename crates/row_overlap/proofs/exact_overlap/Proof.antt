@@ -30,7 +30,8 @@ returns : tie.Need-returns Inv-loop μ-loop
 returns c =
     let a = c .before .before .before .before .before .before .args in
     let l = c .before .before .before .loop in
-    sym (first-at (overlapping (matrixOf (a .shape) (a .list .now))) (a .shape .m) (l .first) (omega arith) (l .inv .1) (sym (c .before .row-overlaps .ensures) ∙ c .if1 .taken))
+    sym (first-at (overlapping (matrixOf (a .shape) (a .list .now))) (a .shape .m) (l .first) (omega arith) (l .inv .1)
+    (sym (c .before .row-overlaps .ensures) ∙ c .if1 .taken))
 
 add-first : tie.Need-add-first Inv-loop μ-loop
 add-first c = omega arith

@@ -38,7 +38,8 @@ returns : tie.Need-returns Inv-loop μ-loop
 returns c =
     let b = c .before .before .before .before .before .before .before .before in
     let l = c .before .before .before .before .loop in
-    sym (test-holds (overlaps (matrixOf (b .args .shape) (b .args .list .now))) (b .args .i) (l .later, l .inv .0, omega arith, omega (arith, c .before .common-with .ensures, c .if1 .taken)))
+    sym (test-holds (overlaps (matrixOf (b .args .shape) (b .args .list .now))) (b .args .i)
+    (l .later, l .inv .0, omega arith, omega (arith, c .before .common-with .ensures, c .if1 .taken)))
 
 add-later-2 : tie.Need-add-later-2 Inv-loop μ-loop
 add-later-2 c = omega arith
@@ -62,7 +63,8 @@ returns-2 : tie.Need-returns-2 Inv-loop μ-loop
 returns-2 c =
     let b = c .before .before .before .before .before in
     let l = c .before .loop in
-    sym (test-fails (overlaps (matrixOf (b .args .shape) (b .args .list .now))) (b .args .i) (λ o. omega (arith, l .inv .2 (o .0) (o .1) (omega (arith, o .2)), o .3)))
+    sym (test-fails (overlaps (matrixOf (b .args .shape) (b .args .list .now))) (b .args .i)
+    (λ o. omega (arith, l .inv .2 (o .0) (o .1) (omega (arith, o .2)), o .3)))
 
 pub row-overlaps-spec : {M : Type 1} → statement M
 row-overlaps-spec =

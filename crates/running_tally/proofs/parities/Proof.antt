@@ -43,7 +43,8 @@ loop-again c =
     let a = s .args in
     let x = c .row-parity .result in (
       omega arith,
-      rows-step (a .list .now) (o .i) (a .rho) (at (a .bits .now)) (o .parity) x (omega (arith, s .pre .0 .few)) (row-is (a .list .now) (a .rho) (at (a .bits .now)) (o .i) x (c .row-parity .ensures)) (o .inv .1),
+      rows-step (a .list .now) (o .i) (a .rho) (at (a .bits .now)) (o .parity) x (omega (arith, s .pre .0 .few))
+          (row-is (a .list .now) (a .rho) (at (a .bits .now)) (o .i) x (c .row-parity .ensures)) (o .inv .1),
     )
 
 returns : tie.Need-returns Inv-loop μ-loop

@@ -27,7 +27,8 @@ parities-by-weight-requires c κs =
 returns : tie.Need-returns
 returns c =
     let s = c .before .before .before .before .before .before .before .before .before in
-    rows-parities (matrixOf (s .args .shape) (s .args .list .now)) (at (s .args .bits .now)) (c .parities-by-weight .last .1 .1 .1 .1 .0) (c .parities-by-weight .ensures)
+    rows-parities (matrixOf (s .args .shape) (s .args .list .now)) (at (s .args .bits .now))
+    (c .parities-by-weight .last .1 .1 .1 .1 .0) (c .parities-by-weight .ensures)
 
 turn-flipped-requires : tie.Need-turn-flipped-requires
 turn-flipped-requires c κs =
@@ -37,7 +38,9 @@ turn-flipped-requires c κs =
 returns-2 : tie.Need-returns-2
 returns-2 c =
     let s = c .before .before .before .before .before .before .before .before .before in
-    turned-parities (matrixOf (s .args .shape) (s .args .list .now)) (s .pre .0 .0) (s .args .index .now) (s .pre .0 .1) (at (s .args .before .now)) (at (s .args .bits .now)) (s .pre .1 .0) (s .pre .1 .1) (s .args .parity .now) (c .turn-flipped .last .1 .1 .1 .1 .1 .0) (s .pre .1 .2) (c .turn-flipped .ensures)
+    turned-parities (matrixOf (s .args .shape) (s .args .list .now)) (s .pre .0 .0) (s .args .index .now) (s .pre .0 .1)
+    (at (s .args .before .now)) (at (s .args .bits .now)) (s .pre .1 .0) (s .pre .1 .1) (s .args .parity .now)
+    (c .turn-flipped .last .1 .1 .1 .1 .1 .0) (s .pre .1 .2) (c .turn-flipped .ensures)
 
 pub renew-spec : {M : Type 1} → statement M
 renew-spec =

@@ -27,9 +27,12 @@ add-rows-requires c κs =
     let s = c .before .before .before .before .before .before .before .before .before .before .before .before .before in
     let H = matrixOf (s .args .shape) (s .args .list .now) in
     let w = at (s .args .bits .now) in
-    let l = c .before .before .before .before .list-odd .last .1 .1 .0 in
-    let t = c .before .before .before .before .list-odd .result in
-    let f = failing-places H w (c .before .before .before .before .before .before .before .renew .last .1 .1 .1 .1 .1 .0) (c .before .before .before .before .before .before .before .renew .ensures) l t (c .before .before .before .before .list-odd .ensures) in (failing-parts H (s .pre .0 .0) w l t f, failing-room H (s .pre .0 .0) w l t f)
+    let odd = c .before .before .before .before .list-odd in
+    let new = c .before .before .before .before .before .before .before .renew in
+    let l = odd .last .1 .1 .0 in
+    let t = odd .result in
+    let f = failing-places H w (new .last .1 .1 .1 .1 .1 .0) (new .ensures) l t (odd .ensures) in
+    (failing-parts H (s .pre .0 .0) w l t f, failing-room H (s .pre .0 .0) w l t f)
 
 cast-result : tie.Need-cast-result
 cast-result c = search needs
@@ -39,10 +42,12 @@ returns c =
     let s = c .before .before .before .before .before .before .before .before .before .before .before .before .before .before in
     let H = matrixOf (s .args .shape) (s .args .list .now) in
     let w = at (s .args .bits .now) in
-    let l = c .before .before .before .before .before .list-odd .last .1 .1 .0 in
-    let t = c .before .before .before .before .before .list-odd .result in
-    let f = failing-places H w (c .before .before .before .before .before .before .before .before .renew .last .1 .1 .1 .1 .1 .0) (c .before .before .before .before .before .before .before .before .renew .ensures) l t (c .before .before .before .before .before .list-odd .ensures) in record {
-      parities = c .before .before .before .before .before .before .before .before .renew .ensures;
+    let odd = c .before .before .before .before .before .list-odd in
+    let new = c .before .before .before .before .before .before .before .before .renew in
+    let l = odd .last .1 .1 .0 in
+    let t = odd .result in
+    let f = failing-places H w (new .last .1 .1 .1 .1 .1 .0) (new .ensures) l t (odd .ensures) in record {
+      parities = new .ensures;
       tallied = tallied H (s .pre .0 .0) w l t f (c .add-rows .last .1 .1 .1 .1 .0) (c .add-rows .ensures);
     }
 

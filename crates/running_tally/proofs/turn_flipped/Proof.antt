@@ -46,7 +46,8 @@ loop-again c =
     let o = c .before .before .before .before .before .loop in
     let a = s .args in (
       omega arith,
-      flips-step (a .parity .now) (s .pre .1) (a .index .now) (a .gamma) (at (a .before .now)) (at (a .bits .now)) (o .j) (o .parity) (c .turn-bit .last .1 .1 .1 .1 .1 .0) (o .inv .1) (c .turn-bit .ensures),
+      flips-step (a .parity .now) (s .pre .1) (a .index .now) (a .gamma) (at (a .before .now)) (at (a .bits .now)) (o .j) (o .parity)
+          (c .turn-bit .last .1 .1 .1 .1 .1 .0) (o .inv .1) (c .turn-bit .ensures),
     )
 
 returns : tie.Need-returns Inv-loop μ-loop

@@ -1,4 +1,5 @@
--- `sample_levels::magnitude_of` meets its contract: only the difference of the two shifts counts, and of that at most 27 places (`proofs/Nearest.antt`). Assumes nothing.
+-- `sample_levels::magnitude_of` meets its contract: only the difference of the two shifts counts, and of that at most 27 places
+-- (`proofs/Nearest.antt`). Assumes nothing.
 use mathlib.Core.Path.{sym, ap₂, _∙_}
 use Prim.Native.Nat.{ℕ, min, _*_, _^_, _≤_}
 use borrow.Author.Needs.{needs}
@@ -30,8 +31,14 @@ capped-requires c κs =
     let down = c .places2 in
     let u : up .result ≤ 27 = omega (arith, up .ensures) in
     let d : down .result ≤ 27 = omega (arith, down .ensures) in
-    omega
-    (arith, sample-shl (p .0) (p .1) (up .result) u, sample-lt (p .0) (p .1) (up .result) u, step-shl (p .0) (p .1) (down .result) d, step-lt (p .0) (p .1) (down .result) d, step-pos (p .0) (p .1) (down .result) d)
+    omega (
+      arith,
+      sample-shl (p .0) (p .1) (up .result) u,
+      sample-lt (p .0) (p .1) (up .result) u,
+      step-shl (p .0) (p .1) (down .result) d,
+      step-lt (p .0) (p .1) (down .result) d,
+      step-pos (p .0) (p .1) (down .result) d,
+    )
 
 returns : tie.Need-returns
 returns c =

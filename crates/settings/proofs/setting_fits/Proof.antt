@@ -38,7 +38,8 @@ returns-4 : tie.Need-returns-4
 unfolding settingFits
 returns-4 c =
     let z = c .before .before in
-    simp (le-leb _ _ (z .before .before .if1 .left), le-leb _ _ (z .before .if2 .left), le-leb _ _ (z .if3 .left), kind-fits (z .before .before .before .args .s .step))
+    let kind = kind-fits (z .before .before .before .args .s .step) in
+    simp (le-leb _ _ (z .before .before .if1 .left), le-leb _ _ (z .before .if2 .left), le-leb _ _ (z .if3 .left), kind)
     (c .step-fits .ensures ∙ ap stepFits (c .before .step-of .ensures))
 
 pub setting-fits-spec : {M : Type 1} → statement M

@@ -11,7 +11,8 @@ use Rattle.soft_rounds.proofs.run.Statement.{statement}
 use Rattle.soft_rounds.proofs.run.Tie as tie
 
 abbrev Inv-loop : tie.InvT-loop
-Inv-loop shape list index limit middle bits₀ levels₀ parity₀ votes₀ failing₀ k₀ bits levels parity votes failing k = Going (matrixOf shape list) middle limit (stateOf middle bits₀ levels₀) bits levels parity votes failing k
+Inv-loop shape list index limit middle bits₀ levels₀ parity₀ votes₀ failing₀ k₀ bits levels parity votes failing k =
+    Going (matrixOf shape list) middle limit (stateOf middle bits₀ levels₀) bits levels parity votes failing k
 
 abbrev μ-loop : tie.MeasureT-loop
 μ-loop shape list index limit middle bits₀ levels₀ parity₀ votes₀ failing₀ k₀ bits levels parity votes failing k = limit - k
@@ -23,13 +24,16 @@ retally-requires c κs =
     ((z .pre .0 .matrix, z .pre .1), (zero-word H, z .pre .0 .word, zero-parities H))
 
 loop-holds : tie.Need-loop-holds Inv-loop μ-loop
-loop-holds c = let z = c .before .before .before .before .before .before .before in going-starts _ _ (z .args .limit) _ _ (z .pre .0) _ _ _ (c .retally .ensures)
+loop-holds c =
+    let z = c .before .before .before .before .before .before .before in
+    going-starts _ _ (z .args .limit) _ _ (z .pre .0) _ _ _ (c .retally .ensures)
 
 returns : tie.Need-returns Inv-loop μ-loop
 returns c =
     let l = c .before .before in
     let e : l .loop .failing ≡ 0 = omega arith in
-    rw e at (going-ends _ _ _ _ _ (l .before .before .before .before .before .before .before .before .pre .0) _ _ _ _ _ _ (l .loop .inv) (λ h. absurd (omega arith)))
+    rw e at (going-ends _ _ _ _ _ (l .before .before .before .before .before .before .before .before .pre .0) _ _ _ _ _ _
+    (l .loop .inv) (λ h. absurd (omega arith)))
 
 round-requires : tie.Need-round-requires Inv-loop μ-loop
 round-requires c κs =
@@ -46,7 +50,8 @@ loop-less c = omega arith
 loop-again : tie.Need-loop-again Inv-loop μ-loop
 loop-again c =
     let l = c .before .before .before .before .before .before .before in
-    going-step _ _ _ _ _ (l .before .before .before .before .before .before .before .before .pre .0) _ _ _ _ _ _ (l .loop .inv) (omega arith) (omega arith) _ _ _ _ _ (c .round .ensures)
+    going-step _ _ _ _ _ (l .before .before .before .before .before .before .before .before .pre .0) _ _ _ _ _ _
+    (l .loop .inv) (omega arith) (omega arith) _ _ _ _ _ (c .round .ensures)
 
 returns-2 : tie.Need-returns-2 Inv-loop μ-loop
 returns-2 c =
