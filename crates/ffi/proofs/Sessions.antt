@@ -21,9 +21,9 @@ use Rattle.quantiser.specs.Samples.{Choice, settingFits, hardBit}
 use Rattle.iterative.specs.Iterative.{startOf, changedBits}
 use Rattle.session_record.specs.Record.{Record}
 use Rattle.session_asking.specs.Asked.{Held, openVerdict, stepVerdict}
-use Rattle.session_steps.specs.Steps.{Left, saysAt, openOf, stepOf}
+use Rattle.session_steps.specs.Steps.{Left, saysAt, openOf, steppedState, stepOf}
 use Rattle.session_record.specs.Sessions.{recordOf}
-use Rattle.session_steps.specs.Leaving.{steppedState, Leaves}
+use Rattle.session_steps.specs.Leaving.{Leaves}
 use Rattle.session_record.specs.declared.Session.{Session}
 use Rattle.session_asking.proofs.Asking.{accepted-open, accepted-step}
 use Rattle.session_steps.proofs.Leaving.{refused-open-keeps, refused-step-keeps, accepted-opens, accepted-steps}

@@ -18,8 +18,7 @@ use Rattle.iterative.specs.Iterative.{startOf}
 use Rattle.session_record.specs.Record.{Record, working, decoded, failed, stateAfter}
 use Rattle.session_asking.specs.Asked.{Held, lent, openVerdict, stepVerdict}
 use Rattle.session_asking.specs.Reading.{Steppable}
-use Rattle.session_steps.specs.Steps.{heldAt, openOf, heldState, stepOf}
-use Rattle.session_steps.specs.Leaving.{openedLeft, steppedState, steppedLeft}
+use Rattle.session_steps.specs.Steps.{heldAt, openedLeft, openOf, stateIn, steppedState, steppedLeft, stepOf}
 use Rattle.session.specs.Stepping.{Means, Ran, opened, stepped, step-refused, open-refused, Within}
 use Rattle.session_asking.proofs.Asking.{accepted-open, accepted-step}
 use Rattle.session_steps.proofs.Leaving.{refused-open-keeps, refused-step-keeps, accepted-opens, accepted-steps, start-bits, round-bits}
@@ -66,7 +65,7 @@ step-means H w h e =
     let s : Steppable H w h = accepted-step H w h e in
     rw (accepted-steps H w h e)
     (held-means H (s .matrix .rows) (h .rec .bits) (h .rec .limit) (suc (h .rec .k)) (steppedState H h) h
-    (round-bits H (largest (h .rec .bits)) (heldState h)) (omega (arith, s .usable .left)))
+    (round-bits H (largest (h .rec .bits)) (stateIn (h .word) (h .levels))) (omega (arith, s .usable .left)))
 
 -- ---- a session ends
 

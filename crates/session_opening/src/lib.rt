@@ -16,8 +16,8 @@ ghost use Rattle.iterative_core.specs.Iterative.{iterativeVerdict};
 ghost use Rattle.session_asking.specs.Asked.{lent};
 ghost use Rattle.session_asking.specs.Reading.{Openable};
 ghost use Rattle.session_asking.specs.Parts.{heldOf, samplesVerdict};
-ghost use Rattle.session_steps.specs.Steps.{openOf};
-ghost use Rattle.session_steps.specs.Leaving.{blank, openedLeft, Leaves};
+ghost use Rattle.session_steps.specs.Steps.{openedLeft, openOf};
+ghost use Rattle.session_steps.specs.Leaving.{blank, Leaves};
 
 // What opening asks once its matrix is accepted: 6, 7, 8.
 fn ask_samples(n: usize, setting: Setting, samples: &[f32], bytes: usize, room: usize) -> Checked

@@ -7,8 +7,8 @@ use session_record::Turn;
 ghost use Rattle.parity_check.specs.Shapes.{matrixOf};
 ghost use Rattle.session_asking.specs.Reading.{Steppable};
 ghost use Rattle.session_asking.specs.Parts.{heldOf};
-ghost use Rattle.session_steps.specs.Steps.{stepOf};
-ghost use Rattle.session_steps.specs.Leaving.{steppedLeft, Leaves, Lent, Turned};
+ghost use Rattle.session_steps.specs.Steps.{steppedLeft, stepOf};
+ghost use Rattle.session_steps.specs.Leaving.{Leaves, Lent, Turned};
 
 // Steps 4 to 6 on the word and the levels lent, and how many checks of the new word fail.
 fn round_on(shape: Shape, list: &[u16], middle: u8, word: &mut [u8], levels: &mut [i8]) -> u16

@@ -26,8 +26,8 @@ use Rattle.session_record.specs.Record.{recordFor, stateAfter, outcomeIn}
 use Rattle.session_record.specs.Sessions.{recordOf}
 use Rattle.session_asking.specs.Asked.{Held, openVerdict, stepVerdict}
 use Rattle.session_asking.specs.Reading.{Openable, Steppable}
-use Rattle.session_steps.specs.Steps.{openOf, heldState, stepOf}
-use Rattle.session_steps.specs.Leaving.{openedLeft, steppedState, steppedLeft, Leaves, Lent, Turned}
+use Rattle.session_steps.specs.Steps.{openedLeft, openOf, stateIn, steppedState, steppedLeft, stepOf}
+use Rattle.session_steps.specs.Leaving.{Leaves, Lent, Turned}
 use Rattle.session_record.specs.declared.Session.{Session}
 use Rattle.session_asking.proofs.Asking.{finite-first}
 use Rattle.session_steps.proofs.Leaving.{refused-open-keeps, refused-step-keeps, accepted-opens, accepted-steps, start-bits, round-bits}
@@ -51,7 +51,7 @@ module _ (H : Matrix) (w : List ℕ) (h : Held) (s : Steppable H w h) where
   unfolding changedBits
   changed-is =
       let z : ℕ → ℕ = steppedState H h .z in
-      let b : (j : ℕ) → j < H .n → z j < 2 = λ j l. round-bits H (largest (h .rec .bits)) (heldState h) j in
+      let b : (j : ℕ) → j < H .n → z j < 2 = λ j l. round-bits H (largest (h .rec .bits)) (stateIn (h .word) (h .levels)) j in
       let e : 8 * bytesFor (H .n) ≡ H .n + (8 * bytesFor (H .n) - H .n) = omega arith in
       ap (λ (k : ℕ). distance k (bitAt (pack (H .n) z)) (bitAt w)) e
       ∙ distance-spare (H .n) (8 * bytesFor (H .n) - H .n) (bitAt (pack (H .n) z)) (bitAt w)

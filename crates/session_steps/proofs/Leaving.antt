@@ -11,8 +11,7 @@ use Rattle.soft_rounds.specs.Rounds.{State, levelAfter, roundOf}
 use Rattle.iterative_core.specs.Iterative.{startOf}
 use Rattle.soft_levels.proofs.Levels.{above-bit}
 use Rattle.session_asking.specs.Asked.{Held, openVerdict, stepVerdict}
-use Rattle.session_steps.specs.Steps.{openOf, stepOf}
-use Rattle.session_steps.specs.Leaving.{openedLeft, steppedLeft}
+use Rattle.session_steps.specs.Steps.{openedLeft, openOf, steppedLeft, stepOf}
 
 -- a refused call leaves everything, and says its refusal
 pub refused-open-keeps : (H : Matrix) (S : Choice) (xs : List Float) (h : Held) (k x : ℕ) → openVerdict H S xs h ≡ refused k x

@@ -1,17 +1,19 @@
 -- Opening and one step of a session. (Document 01, "Rounds one at a time".)
---   Left               == what a call says, and what it leaves
---   saysAt, heldAt     == what is said of round k, and the record and the buffers after it
---   leave v s new old  == what a call says and leaves by its verdict
---   heldState h        == the word and the levels lent, as the state of a round
---   openOf, stepOf     == what opening and a step say and leave
+--   Left                  == what a call says, and what it leaves
+--   saysAt, heldAt        == what is said of round k, and the record and the buffers after it
+--   leave v new old       == what a call says and leaves by its verdict: new, or a refusal with old kept
+--   openedLeft, openOf    == what an accepted opening says and leaves, and any opening
+--   stateIn word levels   == the state of a round that a packed word and levels stand for
+--   steppedState H h      == the state to which a step brings the word and the levels
+--   steppedLeft, stepOf   == what an accepted step says and leaves, and any step
 -- Assumes nothing.
 use Prim.Native.Nat.{ℕ, suc}
 use mathlib.Core.List.{List}
-use lib.IntN.{pos}
+use lib.IntN.{ℤ, pos}
 use lib.Ieee.{Float}
 use lib.ListN.{getD}
 use Rattle.counting.specs.Lists.{listed}
-use Rattle.answers.specs.Paper.{Verdict, accepted, refused, Said, report, after, written}
+use Rattle.answers.specs.Paper.{Verdict, accepted, refused, Said, refusal, report, written}
 use Rattle.packed_word.specs.Packed.{bitAt, pack}
 use Rattle.parity_check.specs.Code.{Matrix, failing}
 use Rattle.quantiser.specs.Samples.{Choice, largest, hardBit}
@@ -39,22 +41,36 @@ heldAt H bits limit k s h =
     }
 
 -- "a refused step or opening leaves it", and writes to no buffer
-abbrev pub leave : Verdict → Said → Held → Held → Left
-leave accepted s new old = record { said = s; held = new }
-leave (refused k x) s new old = record { said = after (refused k x) s; held = old }
+abbrev pub leave : Verdict → Left → Held → Left
+leave accepted new old = new
+leave (refused k x) new old = record { said = refusal k x; held = old }
 
 -- "Opening does steps 1 to 3", "and replaces any record"
-unfoldable pub openOf : Matrix → Choice → List Float → Held → Left
-openOf H S xs h =
-    leave (openVerdict H S xs h) (saysAt H (S .limit) 0 (hardBit xs) (startOf S xs .z))
-    (heldAt H (S .bits) (S .limit) 0 (startOf S xs) h) h
+abbrev pub openedLeft : Matrix → Choice → List Float → Held → Left
+openedLeft H S xs h =
+    record {
+      said = saysAt H (S .limit) 0 (hardBit xs) (startOf S xs .z);
+      held = heldAt H (S .bits) (S .limit) 0 (startOf S xs) h;
+    }
 
--- the word and the levels lent, as the state of a round
-abbrev pub heldState : Held → State
-heldState h = state (bitAt (h .word)) (λ j. getD (h .levels) j (pos 0))
+unfoldable pub openOf : Matrix → Choice → List Float → Held → Left
+openOf H S xs h = leave (openVerdict H S xs h) (openedLeft H S xs h) h
+
+-- the state of a round that a packed word and levels stand for
+abbrev pub stateIn : List ℕ → List ℤ → State
+stateIn word levels = state (bitAt word) (λ j. getD levels j (pos 0))
+
+-- the state to which steps 4 to 6 bring the word and the levels lent
+abbrev pub steppedState : Matrix → Held → State
+steppedState H h = roundOf H (largest (h .rec .bits)) (stateIn (h .word) (h .levels))
 
 -- "A step does 4 to 6 and then 2 and 3, on the matrix, word and levels lent with it"
+abbrev pub steppedLeft : Matrix → List ℕ → Held → Left
+steppedLeft H w h =
+    record {
+      said = saysAt H (h .rec .limit) (suc (h .rec .k)) (bitAt w) (steppedState H h .z);
+      held = heldAt H (h .rec .bits) (h .rec .limit) (suc (h .rec .k)) (steppedState H h) h;
+    }
+
 unfoldable pub stepOf : Matrix → List ℕ → Held → Left
-stepOf H w h =
-    leave (stepVerdict H w h) (saysAt H (h .rec .limit) (suc (h .rec .k)) (bitAt w) (roundOf H (largest (h .rec .bits)) (heldState h) .z))
-    (heldAt H (h .rec .bits) (h .rec .limit) (suc (h .rec .k)) (roundOf H (largest (h .rec .bits)) (heldState h)) h) h
+stepOf H w h = leave (stepVerdict H w h) (steppedLeft H w h) h
