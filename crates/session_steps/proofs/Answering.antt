@@ -17,16 +17,18 @@ use Rattle.packed_word.specs.Steps.{at}
 use Rattle.packed_word.proofs.Packing.{length-pack, bitAt-pack, spare-pack, spare-clear, pack-cong}
 use Rattle.packed_word.proofs.Distances.{distance-cong, distance-spare, distance-self}
 use Rattle.parity_check.specs.Code.{Matrix, Word, failing}
+use Rattle.parity_check.specs.Reading.{Rows}
 use Rattle.parity_check.proofs.Rows.{failing-cong}
 use Rattle.quantiser.specs.Samples.{Choice, largest, levelOf, levelsOf, hardBit}
 use Rattle.quantiser.specs.Filling.{Fillable, Filled}
 use Rattle.quantiser.proofs.Ranges.{reads-fits, largest-most}
+use Rattle.soft_rounds.specs.Rounds.{State}
 use Rattle.iterative_core.specs.Iterative.{startOf, changedBits}
 use Rattle.session_record.specs.Record.{recordFor, stateAfter, outcomeIn}
 use Rattle.session_record.specs.Sessions.{recordOf}
 use Rattle.session_asking.specs.Asked.{Held, openVerdict, stepVerdict}
 use Rattle.session_asking.specs.Reading.{Openable, Steppable}
-use Rattle.session_steps.specs.Steps.{openedLeft, openOf, stateIn, steppedState, steppedLeft, stepOf}
+use Rattle.session_steps.specs.Steps.{openedFrom, openedLeft, openOf, stateIn, steppedState, steppedLeft, stepOf}
 use Rattle.session_steps.specs.Leaving.{Leaves, Lent, Turned}
 use Rattle.session_record.specs.declared.Session.{Session}
 use Rattle.session_asking.proofs.Asking.{finite-first}
@@ -101,6 +103,24 @@ module _ (H : Matrix) (w : List ℕ) (h : Held) (answer : Answer) (session : Ses
 
 -- ---- an accepted opening
 
+-- from a start state: the cells are its word, the buffers are written from it, and its word is the received one
+module _ (H : Matrix) (rows : Rows H) (s : State) (r : ℕ → ℕ) (h : Held) (cells word′ : List ℕ) (levels′ : List ℤ)
+    (same : (j : ℕ) → j < H .n → at cells j ≡ s .z j) (none : 0 ≡ changedBits H (s .z) r)
+    (w : word′ ≡ over (pack (H .n) (at cells)) (h .word)) (l : levels′ ≡ over (listed (H .n) (s .R)) (h .levels)) where
+  -- the record and the report that are made of the count
+  pub from-leaves : (bits limit f : ℕ) (answer : Answer) (session : Session) → f ≡ failing H (at cells)
+      → recordOf session ≡ recordFor H (stateAfter f 0 limit) bits limit 0
+      → saidOf answer ≡ report (outcomeIn (stateAfter f 0 limit)) 0 f 0 → Leaves (openedFrom H bits limit s r h) answer session word′ levels′
+  from-leaves bits limit f answer session e d a =
+      let fails : f ≡ failing H (s .z) = e ∙ failing-cong H rows (at cells) (s .z) same in
+      record {
+        says = a ∙ rw (fails, none);
+        rec = d ∙ rw fails;
+        word = w ∙ ap (λ (x : List ℕ). over x (h .word)) (pack-cong (H .n) (at cells) (s .z) same);
+        levels = l;
+      }
+
+-- on samples
 module _ (H : Matrix) (S : Choice) (xs : List Float) (h : Held) (o : Openable H S xs h) where
   -- what filling asks
   pub open-fillable : Fillable S xs (h .levels)
@@ -134,13 +154,8 @@ module _ (H : Matrix) (S : Choice) (xs : List Float) (h : Held) (o : Openable H 
         → recordOf session ≡ recordFor H (stateAfter f 0 (S .limit)) (S .bits) (S .limit) 0
         → saidOf answer ≡ report (outcomeIn (stateAfter f 0 (S .limit))) 0 f 0 → Leaves (openedLeft H S xs h) answer session word′ levels′
     open-leaves f word′ answer session w e r a =
-        let fails : f ≡ failing H (startOf S xs .z) = e ∙ failing-cong H (o .matrix .rows) (at cells) (startOf S xs .z) cells-are in
-        record {
-          says = a ∙ rw (fails, none-changed);
-          rec = r ∙ rw fails;
-          word = w ∙ ap (λ (x : List ℕ). over x (h .word)) (pack-cong (H .n) (at cells) (startOf S xs .z) cells-are);
-          levels = levels-are;
-        }
+        from-leaves H (o .matrix .rows) (startOf S xs) (hardBit xs) h cells word′ levels′ cells-are none-changed w levels-are
+        (S .bits) (S .limit) f answer session e r a
 
 -- ---- an opening as a whole
 

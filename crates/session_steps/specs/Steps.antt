@@ -2,7 +2,8 @@
 --   Left                  == what a call says, and what it leaves
 --   saysAt, heldAt        == what is said of round k, and the record and the buffers after it
 --   leave v new old       == what a call says and leaves by its verdict: new, or a refusal with old kept
---   openedLeft, openOf    == what an accepted opening says and leaves, and any opening
+--   openedFrom .. s r h   == what an accepted opening says and leaves that starts at the state s
+--   openedLeft, openOf    == what an accepted opening on samples says and leaves, and any opening on samples
 --   stateIn word levels   == the state of a round that a packed word and levels stand for
 --   steppedState H h      == the state to which a step brings the word and the levels
 --   steppedLeft, stepOf   == what an accepted step says and leaves, and any step
@@ -45,13 +46,13 @@ abbrev pub leave : Verdict → Left → Held → Left
 leave accepted new old = new
 leave (refused k x) new old = record { said = refusal k x; held = old }
 
--- "Opening does steps 1 to 3", "and replaces any record"
+-- "Opening does steps 1 to 3", "and replaces any record": here from any start state s, r being the received word
+abbrev pub openedFrom : Matrix → ℕ → ℕ → State → (ℕ → ℕ) → Held → Left
+openedFrom H bits limit s r h = record { said = saysAt H limit 0 r (s .z); held = heldAt H bits limit 0 s h }
+
+-- on samples it starts with their hard bits and levels, and the hard bits are the received word
 abbrev pub openedLeft : Matrix → Choice → List Float → Held → Left
-openedLeft H S xs h =
-    record {
-      said = saysAt H (S .limit) 0 (hardBit xs) (startOf S xs .z);
-      held = heldAt H (S .bits) (S .limit) 0 (startOf S xs) h;
-    }
+openedLeft H S xs h = openedFrom H (S .bits) (S .limit) (startOf S xs) (hardBit xs) h
 
 unfoldable pub openOf : Matrix → Choice → List Float → Held → Left
 openOf H S xs h = leave (openVerdict H S xs h) (openedLeft H S xs h) h
