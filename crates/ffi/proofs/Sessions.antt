@@ -19,9 +19,9 @@ use Rattle.parity_check.specs.Check.{checkOf}
 use Rattle.parity_check.specs.Reading.{Accepted}
 use Rattle.quantiser.specs.Samples.{Choice, settingFits, hardBit}
 use Rattle.iterative.specs.Iterative.{startOf, changedBits}
-use Rattle.session_record.specs.Record.{Record}
+use Rattle.session_record.specs.Record.{Course, Record, courseIn}
 use Rattle.session_asking.specs.Asked.{Held, openVerdict, stepVerdict}
-use Rattle.session_steps.specs.Steps.{Left, saysAt, openOf, steppedState, stepOf}
+use Rattle.session_steps.specs.Steps.{Left, courseFor, saysAt, openOf, steppedState, stepOf}
 use Rattle.session_record.specs.Sessions.{recordOf}
 use Rattle.session_steps.specs.Leaving.{Leaves}
 use Rattle.session_record.specs.declared.Session.{Session}
@@ -40,9 +40,9 @@ verdict-cases accepted f g = f refl
 verdict-cases (refused k x) f g = g k x refl
 
 -- the answer of an accepted call
-says-small : (H : Matrix) → Accepted H → (limit k : ℕ) (r z : ℕ → ℕ) → k < 256 → Small (saysAt H limit k r z)
+says-small : (H : Matrix) → Accepted H → (course : Course) (k : ℕ) (r z : ℕ → ℕ) → k < 256 → Small (saysAt H course k r z)
 unfolding changedBits
-says-small H a limit k r z h =
+says-small H a course k r z h =
     record {
       rounds = h;
       failing = omega (arith, failing-le H z, a .sizes .m-most);
@@ -52,7 +52,7 @@ says-small H a limit k r z h =
 pub open-small : (H : Matrix) (S : Choice) (xs : List Float) (h : Held) → Small (openOf H S xs h .said)
 open-small H S xs h =
     verdict-cases (openVerdict H S xs h)
-    (λ e. subst (λ (l : Left). Small (l .said)) (sym (accepted-opens H S xs h e)) (says-small H (accepted-open H S xs h e .matrix) (S .limit) 0 (hardBit xs) (startOf S xs .z) (omega arith)))
+    (λ e. subst (λ (l : Left). Small (l .said)) (sym (accepted-opens H S xs h e)) (says-small H (accepted-open H S xs h e .matrix) (courseFor S) 0 (hardBit xs) (startOf S xs .z) (omega arith)))
     (λ k x e. subst (λ (l : Left). Small (l .said)) (sym (refused-open-keeps H S xs h k x e)) tt)
 
 pub step-small : (H : Matrix) (w : List ℕ) (h : Held) → Small (stepOf H w h .said)
@@ -60,7 +60,7 @@ step-small H w h =
     verdict-cases (stepVerdict H w h)
     (λ e. subst (λ (l : Left). Small (l .said)) (sym (accepted-steps H w h e))
     (let p = accepted-step H w h e in
-    says-small H (p .matrix) (h .rec .limit) (suc (h .rec .k)) (bitAt w) (steppedState H h .z) (omega (arith, p .usable .limit, p .usable .left))))
+    says-small H (p .matrix) (courseIn (h .rec)) (suc (h .rec .k)) (bitAt w) (steppedState H h .z) (omega (arith, p .usable .limit, p .usable .left))))
     (λ k x e. subst (λ (l : Left). Small (l .said)) (sym (refused-step-keeps H w h k x e)) tt)
 
 -- a refusal by 6 is a refusal

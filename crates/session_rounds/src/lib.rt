@@ -2,6 +2,7 @@
 // Rests on `session_steps`, `session_asking`, `session_record`, `iterative_core`, `soft_levels`, `packed_word`, `votes` and `syndrome`. Document 01: "Rounds one at a time".
 use answers::Checked;
 use parity_check::Shape;
+use session_record::Course;
 use session_record::Session;
 use session_record::Turn;
 ghost use Rattle.parity_check.specs.Shapes.{matrixOf};
@@ -44,13 +45,15 @@ fn step_accepted(
 {
     let n = shape.n as usize;
     let need = (n + 7) / 8;
-    let bits = session.bits;
-    let limit = session.limit;
+    let course = Course {
+        bits: session.bits,
+        limit: session.limit,
+    };
     let k = session.k;
-    let middle = iterative_core::middle_of(bits);
+    let middle = iterative_core::middle_of(course.bits);
     let failing = round_on(shape, list, middle, word, levels);
     let changed = packed_word::differing(&word[..need], received);
-    session_record::after_round(shape, bits, limit, k + 1, failing, changed)
+    session_record::after_round(shape, course, k + 1, failing, changed)
 }
 
 // One step of a session, by value: the record in and out. A refused step hands the record back.

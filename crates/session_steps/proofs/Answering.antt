@@ -24,11 +24,11 @@ use Rattle.quantiser.specs.Filling.{Fillable, Filled}
 use Rattle.quantiser.proofs.Ranges.{reads-fits, largest-most}
 use Rattle.soft_rounds.specs.Rounds.{State}
 use Rattle.iterative_core.specs.Iterative.{startOf, changedBits}
-use Rattle.session_record.specs.Record.{recordFor, stateAfter, outcomeIn}
+use Rattle.session_record.specs.Record.{Course, courseIn, recordFor, stateAfter, outcomeIn}
 use Rattle.session_record.specs.Sessions.{recordOf}
 use Rattle.session_asking.specs.Asked.{Held, openVerdict, stepVerdict}
 use Rattle.session_asking.specs.Reading.{Openable, Steppable}
-use Rattle.session_steps.specs.Steps.{openedFrom, openedLeft, openOf, stateIn, steppedState, steppedLeft, stepOf}
+use Rattle.session_steps.specs.Steps.{courseFor, openedFrom, openedLeft, openOf, stateIn, steppedState, steppedLeft, stepOf}
 use Rattle.session_steps.specs.Leaving.{Leaves, Lent, Turned}
 use Rattle.session_record.specs.declared.Session.{Session}
 use Rattle.session_asking.proofs.Asking.{finite-first}
@@ -75,8 +75,8 @@ module _ (H : Matrix) (w : List ℕ) (h : Held) (s : Steppable H w h) where
     -- the record and the report that are made of the counts
     pub step-leaves : (changed : ℕ) (answer : Answer) (session : Session)
         → changed ≡ distance (8 * length (take (bytesFor (H .n)) word′)) (bitAt (take (bytesFor (H .n)) word′)) (bitAt w)
-        → recordOf session ≡ recordFor H (stateAfter f (h .rec .k + 1) (h .rec .limit)) (h .rec .bits) (h .rec .limit) (h .rec .k + 1)
-        → saidOf answer ≡ report (outcomeIn (stateAfter f (h .rec .k + 1) (h .rec .limit))) (h .rec .k + 1) f changed
+        → recordOf session ≡ recordFor H (stateAfter f (courseIn (h .rec)) (h .rec .k + 1)) (courseIn (h .rec)) (h .rec .k + 1)
+        → saidOf answer ≡ report (outcomeIn (stateAfter f (courseIn (h .rec)) (h .rec .k + 1))) (h .rec .k + 1) f changed
         → Leaves (steppedLeft H w h) answer session word′ levels′
     step-leaves changed answer session d r a =
         let fails : f ≡ failing H (steppedState H h .z) = rw e at (t .fails) in
@@ -108,10 +108,10 @@ module _ (H : Matrix) (rows : Rows H) (s : State) (r : ℕ → ℕ) (h : Held) (
     (same : (j : ℕ) → j < H .n → at cells j ≡ s .z j) (none : 0 ≡ changedBits H (s .z) r)
     (w : word′ ≡ over (pack (H .n) (at cells)) (h .word)) (l : levels′ ≡ over (listed (H .n) (s .R)) (h .levels)) where
   -- the record and the report that are made of the count
-  pub from-leaves : (bits limit f : ℕ) (answer : Answer) (session : Session) → f ≡ failing H (at cells)
-      → recordOf session ≡ recordFor H (stateAfter f 0 limit) bits limit 0
-      → saidOf answer ≡ report (outcomeIn (stateAfter f 0 limit)) 0 f 0 → Leaves (openedFrom H bits limit s r h) answer session word′ levels′
-  from-leaves bits limit f answer session e d a =
+  pub from-leaves : (course : Course) (f : ℕ) (answer : Answer) (session : Session) → f ≡ failing H (at cells)
+      → recordOf session ≡ recordFor H (stateAfter f course 0) course 0
+      → saidOf answer ≡ report (outcomeIn (stateAfter f course 0)) 0 f 0 → Leaves (openedFrom H course s r h) answer session word′ levels′
+  from-leaves course f answer session e d a =
       let fails : f ≡ failing H (s .z) = e ∙ failing-cong H rows (at cells) (s .z) same in
       record {
         says = a ∙ rw (fails, none);
@@ -151,11 +151,11 @@ module _ (H : Matrix) (S : Choice) (xs : List Float) (h : Held) (o : Openable H 
     none-changed = sym (distance-self (H .n) (hardBit xs))
 
     pub open-leaves : (f : ℕ) (word′ : List ℕ) (answer : Answer) (session : Session) → word′ ≡ over (pack (H .n) (at cells)) (h .word) → f ≡ failing H (at cells)
-        → recordOf session ≡ recordFor H (stateAfter f 0 (S .limit)) (S .bits) (S .limit) 0
-        → saidOf answer ≡ report (outcomeIn (stateAfter f 0 (S .limit))) 0 f 0 → Leaves (openedLeft H S xs h) answer session word′ levels′
+        → recordOf session ≡ recordFor H (stateAfter f (courseFor S) 0) (courseFor S) 0
+        → saidOf answer ≡ report (outcomeIn (stateAfter f (courseFor S) 0)) 0 f 0 → Leaves (openedLeft H S xs h) answer session word′ levels′
     open-leaves f word′ answer session w e r a =
         from-leaves H (o .matrix .rows) (startOf S xs) (hardBit xs) h cells word′ levels′ cells-are none-changed w levels-are
-        (S .bits) (S .limit) f answer session e r a
+        (courseFor S) f answer session e r a
 
 -- ---- an opening as a whole
 

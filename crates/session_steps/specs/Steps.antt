@@ -1,5 +1,6 @@
 -- Opening and one step of a session. (Document 01, "Rounds one at a time".)
 --   Left                  == what a call says, and what it leaves
+--   courseFor S           == what a setting has stay through a session
 --   saysAt, heldAt        == what is said of round k, and the record and the buffers after it
 --   leave v new old       == what a call says and leaves by its verdict: new, or a refusal with old kept
 --   openedFrom .. s r h   == what an accepted opening says and leaves that starts at the state s
@@ -20,7 +21,7 @@ use Rattle.parity_check.specs.Code.{Matrix, failing}
 use Rattle.quantiser.specs.Samples.{Choice, largest, hardBit}
 use Rattle.soft_rounds.specs.Rounds.{State, state, roundOf}
 use Rattle.iterative_core.specs.Iterative.{startOf, changedBits}
-use Rattle.session_record.specs.Record.{recordFor, stateAfter, outcomeIn}
+use Rattle.session_record.specs.Record.{Course, courseIn, recordFor, stateAfter, outcomeIn}
 use Rattle.session_asking.specs.Asked.{Held, openVerdict, stepVerdict}
 
 -- what a call answers, and what it leaves
@@ -28,15 +29,19 @@ pub record Left : Type 0 where
   pub said : Said
   pub held : Held
 
+-- the width and the round limit of a setting stay through a session
+abbrev pub courseFor : Choice → Course
+courseFor S = record { bits = S .bits; limit = S .limit }
+
 -- "rounds k, failing and changed, counted on the word they leave"
-abbrev pub saysAt : Matrix → ℕ → ℕ → (ℕ → ℕ) → (ℕ → ℕ) → Said
-saysAt H limit k r z = report (outcomeIn (stateAfter (failing H z) k limit)) k (failing H z) (changedBits H z r)
+abbrev pub saysAt : Matrix → Course → ℕ → (ℕ → ℕ) → (ℕ → ℕ) → Said
+saysAt H course k r z = report (outcomeIn (stateAfter (failing H z) course k)) k (failing H z) (changedBits H z r)
 
 -- the buffers and the record after round k, the state being s; cells beyond the needed ones stay
-abbrev pub heldAt : Matrix → ℕ → ℕ → ℕ → State → Held → Held
-heldAt H bits limit k s h =
+abbrev pub heldAt : Matrix → Course → ℕ → State → Held → Held
+heldAt H course k s h =
     record {
-      rec = recordFor H (stateAfter (failing H (s .z)) k limit) bits limit k;
+      rec = recordFor H (stateAfter (failing H (s .z)) course k) course k;
       word = written accepted (pack (H .n) (s .z)) (h .word);
       levels = written accepted (listed (H .n) (s .R)) (h .levels);
     }
@@ -47,12 +52,12 @@ leave accepted new old = new
 leave (refused k x) new old = record { said = refusal k x; held = old }
 
 -- "Opening does steps 1 to 3", "and replaces any record": here from any start state s, r being the received word
-abbrev pub openedFrom : Matrix → ℕ → ℕ → State → (ℕ → ℕ) → Held → Left
-openedFrom H bits limit s r h = record { said = saysAt H limit 0 r (s .z); held = heldAt H bits limit 0 s h }
+abbrev pub openedFrom : Matrix → Course → State → (ℕ → ℕ) → Held → Left
+openedFrom H course s r h = record { said = saysAt H course 0 r (s .z); held = heldAt H course 0 s h }
 
 -- on samples it starts with their hard bits and levels, and the hard bits are the received word
 abbrev pub openedLeft : Matrix → Choice → List Float → Held → Left
-openedLeft H S xs h = openedFrom H (S .bits) (S .limit) (startOf S xs) (hardBit xs) h
+openedLeft H S xs h = openedFrom H (courseFor S) (startOf S xs) (hardBit xs) h
 
 unfoldable pub openOf : Matrix → Choice → List Float → Held → Left
 openOf H S xs h = leave (openVerdict H S xs h) (openedLeft H S xs h) h
@@ -69,8 +74,8 @@ steppedState H h = roundOf H (largest (h .rec .bits)) (stateIn (h .word) (h .lev
 abbrev pub steppedLeft : Matrix → List ℕ → Held → Left
 steppedLeft H w h =
     record {
-      said = saysAt H (h .rec .limit) (suc (h .rec .k)) (bitAt w) (steppedState H h .z);
-      held = heldAt H (h .rec .bits) (h .rec .limit) (suc (h .rec .k)) (steppedState H h) h;
+      said = saysAt H (courseIn (h .rec)) (suc (h .rec .k)) (bitAt w) (steppedState H h .z);
+      held = heldAt H (courseIn (h .rec)) (suc (h .rec .k)) (steppedState H h) h;
     }
 
 unfoldable pub stepOf : Matrix → List ℕ → Held → Left
