@@ -28,7 +28,7 @@ use Rattle.session_record.specs.declared.Session.{Session}
 use Rattle.session_asking.proofs.Asking.{accepted-open, accepted-step}
 use Rattle.session_steps.proofs.Leaving.{refused-open-keeps, refused-step-keeps, accepted-opens, accepted-steps}
 use Rattle.codes.specs.Codes.{codeOf, Small}
-use Rattle.codes.specs.Records.{cellsOf, writtenBy}
+use Rattle.codes.specs.Records.{recordCells, cellsOf, writtenBy}
 use Rattle.codes.specs.Settings.{StandsFor}
 use Rattle.ffi.specs.Calls.{leftBy, onRecord, CalledAs}
 use Rattle.ffi.proofs.Bounds.{failing-le}
@@ -90,14 +90,14 @@ called l a s r cells cells′ word′ levels′ v e c =
       levels = v .levels;
     }
 
--- eight cells are a record
-pub on-eight : (l : Left) (h : Held) (r : ℕ) (cells cells′ word′ : List ℕ) (levels′ : List ℤ) → length cells ≡ 8 → CalledAs l r cells cells′ word′ levels′
+-- as many cells as a record's are a record
+pub on-record : (l : Left) (h : Held) (r : ℕ) (cells cells′ word′ : List ℕ) (levels′ : List ℤ) → length cells ≡ recordCells → CalledAs l r cells cells′ word′ levels′
     → CalledAs (onRecord cells l h) r cells cells′ word′ levels′
-on-eight l h r cells cells′ word′ levels′ e c =
-    subst (λ (b : Bool). CalledAs (leftBy b l h) r cells cells′ word′ levels′) (sym (eq-eqb (length cells) 8 e)) c
+on-record l h r cells cells′ word′ levels′ e c =
+    subst (λ (b : Bool). CalledAs (leftBy b l h) r cells cells′ word′ levels′) (sym (eq-eqb (length cells) recordCells e)) c
 
 -- any other number of cells is refused as 7
-pub not-eight : (l : Left) (h : Held) (cells : List ℕ) → (length cells ≡ 8 → ⊥) → CalledAs (onRecord cells l h) 458752 cells cells (h .word) (h .levels)
-not-eight l h cells ne =
-    subst (λ (b : Bool). CalledAs (leftBy b l h) 458752 cells cells (h .word) (h .levels)) (sym (ne-eqb (length cells) 8 ne))
+pub no-record : (l : Left) (h : Held) (cells : List ℕ) → (length cells ≡ recordCells → ⊥) → CalledAs (onRecord cells l h) 458752 cells cells (h .word) (h .levels)
+no-record l h cells ne =
+    subst (λ (b : Bool). CalledAs (leftBy b l h) 458752 cells cells (h .word) (h .levels)) (sym (ne-eqb (length cells) recordCells ne))
     (record { answer = refl; rec = refl; word = refl; levels = refl })

@@ -1,4 +1,4 @@
--- `codes::session_out` meets its contract: the eight cells are copied to the front. Assumes nothing.
+-- `codes::session_out` meets its contract: the record's cells are copied to the front. Assumes nothing.
 use mathlib.Core.Path.{ap, _∙_}
 use mathlib.Core.List.{[], _∷_}
 use Prim.Native.Nat.{ℕ}

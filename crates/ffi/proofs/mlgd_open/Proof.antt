@@ -1,4 +1,4 @@
--- `ffi::mlgd_open` meets its contract: eight cells are a record, and the opening's answer and cells are the definition's. Assumes nothing.
+-- `ffi::mlgd_open` meets its contract: the cells are a record, and the opening's answer and cells are the definition's. Assumes nothing.
 use mathlib.Core.Path.{_≡_, sym, ap, subst, _∙_}
 use mathlib.Core.List.{List}
 use Prim.Native.Nat.{ℕ}
@@ -15,13 +15,13 @@ use Rattle.codes.specs.Records.{recordIn}
 use Rattle.quantiser.specs.Samples.{Choice}
 use Rattle.quantiser.specs.Settings.{choiceOf}
 use Rattle.codes.specs.Settings.{choice}
-use Rattle.ffi.proofs.Sessions.{open-small, open-alike, called, on-eight, not-eight}
+use Rattle.ffi.proofs.Sessions.{open-small, open-alike, called, on-record, no-record}
 use borrow.Author.Needs.{needs}
 use Rattle.ffi.proofs.mlgd_open.Statement.{statement}
 use Rattle.ffi.proofs.mlgd_open.Tie as tie
 
 returns : tie.Need-returns
-returns c = not-eight _ _ (c .before .before .before .before .before .args .cells .now) (c .if1 .taken)
+returns c = no-record _ _ (c .before .before .before .before .before .args .cells .now) (c .if1 .taken)
 
 setting-of-requires : tie.Need-setting-of-requires
 setting-of-requires c κs = search needs
@@ -69,7 +69,7 @@ returns-2 c =
     let v : Leaves (openOf H S (a .samples .now) h) (t .result .answer) (t .result .session) (t .last .1 .1 .1 .1 .1 .0) (t .last .1 .1 .1 .1 .1 .1 .0) =
     subst (λ (l : Left). Leaves l (t .result .answer) (t .result .session) (t .last .1 .1 .1 .1 .1 .0) (t .last .1 .1 .1 .1 .1 .1 .0)) q (t .ensures) in
     let r = c .before .before .turn-code in
-    on-eight (openOf H S (a .samples .now) h) h (r .result) (a .cells .now) (r .last .1 .0) (t .last .1 .1 .1 .1 .1 .0) (t .last .1 .1 .1 .1 .1 .1 .0) (c .before .before .before .before .before .before .before .before .before .before .before .before .before .if1 .left)
+    on-record (openOf H S (a .samples .now) h) h (r .result) (a .cells .now) (r .last .1 .0) (t .last .1 .1 .1 .1 .1 .0) (t .last .1 .1 .1 .1 .1 .1 .0) (c .before .before .before .before .before .before .before .before .before .before .before .before .before .if1 .left)
     (called (openOf H S (a .samples .now) h) (t .result .answer) (t .result .session) (r .result) (a .cells .now) (r .last .1 .0) (t .last .1 .1 .1 .1 .1 .0) (t .last .1 .1 .1 .1 .1 .1 .0) v (r .ensures .0) (r .ensures .1))
 
 pub mlgd-open-spec : {M : Type 1} → statement M
