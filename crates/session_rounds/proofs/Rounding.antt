@@ -20,9 +20,9 @@ use Rattle.soft_rounds.specs.Runs.{stateOf, Holds}
 use Rattle.soft_rounds.proofs.Holding.{holds-word, round-holds}
 use Rattle.soft_rounds.proofs.Running.{holds-alike}
 use Rattle.session_steps.specs.Steps.{stateIn}
-use Rattle.session_steps.specs.Leaving.{Lent, Turned}
+use Rattle.session_steps.specs.Leaving.{RoundLent, RoundLeft}
 
-module _ (H : Matrix) (L : ℕ) (word : List ℕ) (levels : List ℤ) (p : Lent H L word levels) (zeros bits kept votes : List ℕ) (f : ℕ)
+module _ (H : Matrix) (L : ℕ) (word : List ℕ) (levels : List ℤ) (p : RoundLent H L word levels) (zeros bits kept votes : List ℕ) (f : ℕ)
     (u : Unpacked (H .n) word zeros bits) (b : Biased (H .n) L levels kept) (t : Tallied H (at bits) votes f) where
   -- the arrays hold what is lent
   holds-lent : Holds (H .n) L bits kept (stateIn word levels)
@@ -53,10 +53,10 @@ module _ (H : Matrix) (L : ℕ) (word : List ℕ) (levels : List ℤ) (p : Lent 
           within = λ j l. omega (arith, holds-next .levels j l, biased-le L (roundOf H L (stateIn word levels) .R j) (holds-next .within j l));
         }
 
-    pub turned : (word′ : List ℕ) (levels′ : List ℤ) (f′ : ℕ) → word′ ≡ over (pack (H .n) (at bits′)) word
-        → levels′ ≡ over (listed (H .n) (unbiased L kept′)) levels → f′ ≡ failing H (at bits′) → Turned H L word word′ levels levels′ f′
+    pub round-left : (word′ : List ℕ) (levels′ : List ℤ) (f′ : ℕ) → word′ ≡ over (pack (H .n) (at bits′)) word
+        → levels′ ≡ over (listed (H .n) (unbiased L kept′)) levels → f′ ≡ failing H (at bits′) → RoundLeft H L word word′ levels levels′ f′
     unfolding stateOf
-    turned word′ levels′ f′ e q r =
+    round-left word′ levels′ f′ e q r =
         let s : State = roundOf H L (stateIn word levels) in
         let a : Alike (H .n) (stateOf L bits′ kept′) s = holds-alike (H .n) L bits′ kept′ s holds-next in
         record {

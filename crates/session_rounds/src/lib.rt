@@ -9,12 +9,12 @@ ghost use Rattle.parity_check.specs.Shapes.{matrixOf};
 ghost use Rattle.session_asking.specs.Reading.{Steppable};
 ghost use Rattle.session_asking.specs.Parts.{heldOf};
 ghost use Rattle.session_steps.specs.Steps.{steppedLeft, stepOf};
-ghost use Rattle.session_steps.specs.Leaving.{Leaves, Lent, Turned};
+ghost use Rattle.session_steps.specs.Leaving.{Leaves, RoundLent, RoundLeft};
 
 // Steps 4 to 6 on the word and the levels lent, and how many checks of the new word fail.
 fn round_on(shape: Shape, list: &[u16], middle: u8, word: &mut [u8], levels: &mut [i8]) -> u16
-    requires { ⌜ Lent (matrixOf shape (now list)) middle (now word) (now levels) ⌝ }
-    ensures { λ r. ⌜ Turned (matrixOf shape (now (list .entry))) middle (now (word .entry)) (now (word .exit)) (now (levels .entry)) (now (levels .exit)) r ⌝ }
+    requires { ⌜ RoundLent (matrixOf shape (now list)) middle (now word) (now levels) ⌝ }
+    ensures { λ r. ⌜ RoundLeft (matrixOf shape (now (list .entry))) middle (now (word .entry)) (now (word .exit)) (now (levels .entry)) (now (levels .exit)) r ⌝ }
 {
     let n = shape.n as usize;
     let gamma = shape.gamma;

@@ -29,7 +29,7 @@ use Rattle.session_record.specs.Sessions.{recordOf}
 use Rattle.session_asking.specs.Asked.{Held, openVerdict, stepVerdict}
 use Rattle.session_asking.specs.Reading.{Openable, Steppable}
 use Rattle.session_steps.specs.Steps.{courseFor, openedFrom, openedLeft, openOf, stateIn, steppedState, steppedLeft, stepOf}
-use Rattle.session_steps.specs.Leaving.{Leaves, Lent, Turned}
+use Rattle.session_steps.specs.Leaving.{Leaves, RoundLent, RoundLeft}
 use Rattle.session_record.specs.declared.Session.{Session}
 use Rattle.session_asking.proofs.Asking.{finite-first}
 use Rattle.session_steps.proofs.Leaving.{refused-open-keeps, refused-step-keeps, accepted-opens, accepted-steps, start-bits, round-bits}
@@ -38,7 +38,7 @@ use Rattle.session_steps.proofs.Leaving.{refused-open-keeps, refused-st
 
 module _ (H : Matrix) (w : List ℕ) (h : Held) (s : Steppable H w h) where
   -- what the round asks
-  pub step-lent : (L : ℕ) → L ≡ largest (h .rec .bits) → Lent H L (h .word) (h .levels)
+  pub step-lent : (L : ℕ) → L ≡ largest (h .rec .bits) → RoundLent H L (h .word) (h .levels)
   step-lent L e =
       record {
         matrix = s .matrix;
@@ -60,7 +60,7 @@ module _ (H : Matrix) (w : List ℕ) (h : Held) (s : Steppable H w h) where
       (λ j g l. spare-pack (H .n) z b j g ∙ sym (spare-clear (H .n) w (s .clear) j g (omega arith)))
       ∙ distance-cong (H .n) (bitAt-pack (H .n) z b) (λ j l. refl)
 
-  module _ (L f : ℕ) (word′ : List ℕ) (levels′ : List ℤ) (e : L ≡ largest (h .rec .bits)) (t : Turned H L (h .word) word′ (h .levels) levels′ f) where
+  module _ (L f : ℕ) (word′ : List ℕ) (levels′ : List ℤ) (e : L ≡ largest (h .rec .bits)) (t : RoundLeft H L (h .word) word′ (h .levels) levels′ f) where
     word-is : word′ ≡ over (pack (H .n) (steppedState H h .z)) (h .word)
     word-is = rw e at (t .packed)
 

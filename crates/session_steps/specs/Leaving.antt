@@ -1,8 +1,8 @@
 -- What opening, a step and one round of it leave, in the program's terms.
---   blank                   == a record that stands for any
---   Leaves l ..             == the answer, the session and the buffers after a call are those of l
---   Lent H L word levels    == what one round asks
---   Turned H L ..           == the word, the levels and the failing checks that one round leaves
+--   blank                      == a record that stands for any
+--   Leaves l ..                == the answer, the session and the buffers after a call are those of l
+--   RoundLent H L word levels  == what one round asks
+--   RoundLeft H L ..           == the word, the levels and the failing checks that one round leaves
 -- Assumes nothing.
 use Prim.Native.Nat.{ℕ, _≤_, _<_}
 use mathlib.Core.Path.{_≡_}
@@ -31,14 +31,14 @@ pub record Leaves (l : Left) (answer : Answer) (session : Session) (word′ : Li
   pub word : word′ ≡ l .held .word
   pub levels : levels′ ≡ l .held .levels
 
-pub record Lent (H : Matrix) (L : ℕ) (word : List ℕ) (levels : List ℤ) : Type 0 where
+pub record RoundLent (H : Matrix) (L : ℕ) (word : List ℕ) (levels : List ℤ) : Type 0 where
   pub matrix : Accepted H
   pub largest : L ≤ 127
   pub bytes : bytesFor (H .n) ≤ length word
   pub room : H .n ≤ length levels
   pub within : (j : ℕ) → j < H .n → natAbs (getD levels j (pos 0)) ≤ L
 
-pub record Turned (H : Matrix) (L : ℕ) (word word′ : List ℕ) (levels levels′ : List ℤ) (f : ℕ) : Type 0 where
+pub record RoundLeft (H : Matrix) (L : ℕ) (word word′ : List ℕ) (levels levels′ : List ℤ) (f : ℕ) : Type 0 where
   pub packed : word′ ≡ over (pack (H .n) (roundOf H L (stateIn word levels) .z)) word
   pub stored : levels′ ≡ over (listed (H .n) (roundOf H L (stateIn word levels) .R)) levels
   pub fails : f ≡ failing H (roundOf H L (stateIn word levels) .z)
