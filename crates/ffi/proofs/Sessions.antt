@@ -52,7 +52,8 @@ says-small H a course k r z h =
 pub open-small : (H : Matrix) (S : Choice) (xs : List Float) (h : Held) → Small (openOf H S xs h .said)
 open-small H S xs h =
     verdict-cases (openVerdict H S xs h)
-    (λ e. subst (λ (l : Left). Small (l .said)) (sym (accepted-opens H S xs h e)) (says-small H (accepted-open H S xs h e .matrix) (courseFor S) 0 (hardBit xs) (startOf S xs .z) (omega arith)))
+    (λ e. subst (λ (l : Left). Small (l .said)) (sym (accepted-opens H S xs h e))
+    (says-small H (accepted-open H S xs h e .matrix) (courseFor S) 0 (hardBit xs) (startOf S xs .z) (omega arith)))
     (λ k x e. subst (λ (l : Left). Small (l .said)) (sym (refused-open-keeps H S xs h k x e)) tt)
 
 pub step-small : (H : Matrix) (w : List ℕ) (h : Held) → Small (stepOf H w h .said)
@@ -91,13 +92,15 @@ called l a s r cells cells′ word′ levels′ v e c =
     }
 
 -- as many cells as a record's are a record
-pub on-record : (l : Left) (h : Held) (r : ℕ) (cells cells′ word′ : List ℕ) (levels′ : List ℤ) → length cells ≡ recordCells → CalledAs l r cells cells′ word′ levels′
+pub on-record : (l : Left) (h : Held) (r : ℕ) (cells cells′ word′ : List ℕ) (levels′ : List ℤ) → length cells ≡ recordCells
+    → CalledAs l r cells cells′ word′ levels′
     → CalledAs (onRecord cells l h) r cells cells′ word′ levels′
 on-record l h r cells cells′ word′ levels′ e c =
     subst (λ (b : Bool). CalledAs (leftBy b l h) r cells cells′ word′ levels′) (sym (eq-eqb (length cells) recordCells e)) c
 
 -- any other number of cells is refused as 7
-pub no-record : (l : Left) (h : Held) (cells : List ℕ) → (length cells ≡ recordCells → ⊥) → CalledAs (onRecord cells l h) 458752 cells cells (h .word) (h .levels)
+pub no-record : (l : Left) (h : Held) (cells : List ℕ) → (length cells ≡ recordCells → ⊥)
+    → CalledAs (onRecord cells l h) 458752 cells cells (h .word) (h .levels)
 no-record l h cells ne =
     subst (λ (b : Bool). CalledAs (leftBy b l h) 458752 cells cells (h .word) (h .levels)) (sym (ne-eqb (length cells) recordCells ne))
     (record { answer = refl; rec = refl; word = refl; levels = refl })

@@ -30,17 +30,20 @@ module _ (f : ℕ) (course : Course) (k : ℕ) where
   pub after-working : stateAfter f course k ≡ working → (f ≡ 0 → ⊥) × (k ≡ course .limit → ⊥)
   after-working e =
       cases (eqb f 0) (λ y. absurd (let q : 2 ≡ working = rw y at e in omega arith))
-      (λ n. cases (eqb k (course .limit)) (λ y. absurd (let q : 3 ≡ working = rw (n, y) at e in omega arith)) (λ m. (eqb-false f 0 n, eqb-false k (course .limit) m)))
+      (λ n. cases (eqb k (course .limit)) (λ y. absurd (let q : 3 ≡ working = rw (n, y) at e in omega arith))
+      (λ m. (eqb-false f 0 n, eqb-false k (course .limit) m)))
 
   after-decoded : stateAfter f course k ≡ decoded → f ≡ 0
   after-decoded e =
       cases (eqb f 0) (λ y. eqb-true f 0 y)
-      (λ n. cases (eqb k (course .limit)) (λ y. absurd (let q : 3 ≡ decoded = rw (n, y) at e in omega arith)) (λ m. absurd (let q : 1 ≡ decoded = rw (n, m) at e in omega arith)))
+      (λ n. cases (eqb k (course .limit)) (λ y. absurd (let q : 3 ≡ decoded = rw (n, y) at e in omega arith))
+      (λ m. absurd (let q : 1 ≡ decoded = rw (n, m) at e in omega arith)))
 
   after-failed : stateAfter f course k ≡ failed → (k ≡ course .limit) × (f ≡ 0 → ⊥)
   after-failed e =
       cases (eqb f 0) (λ y. absurd (let q : 2 ≡ failed = rw y at e in omega arith))
-      (λ n. cases (eqb k (course .limit)) (λ y. (eqb-true k (course .limit) y, eqb-false f 0 n)) (λ m. absurd (let q : 1 ≡ failed = rw (n, m) at e in omega arith)))
+      (λ n. cases (eqb k (course .limit)) (λ y. (eqb-true k (course .limit) y, eqb-false f 0 n))
+      (λ m. absurd (let q : 1 ≡ failed = rw (n, m) at e in omega arith)))
 
 -- the state of the record is that of the word beside it
 held-means : (H : Matrix) → Rows H → (course : Course) (k : ℕ) (s : State) (h : Held) → ((j : ℕ) → s .z j < 2) → k ≤ course .limit
@@ -89,7 +92,9 @@ ends-within (stepped {r} {t} p H w word levels e) =
     let s : Steppable H w (lent r word levels) = accepted-step H w (lent r word levels) e in
     let i : Within _ r t = ends-within p in
     rw (accepted-steps H w (lent r word levels) e)
-    (within-limit (steppedLeft H w (lent r word levels) .held .rec) (i .same-limit) (ap suc (i .counts)) (omega (arith, i .same-limit, i .counts, s .usable .left))
-    (λ v. let q = after-working (failing H (steppedState H (lent r word levels) .z)) (courseIn r) (suc (r .k)) v in omega (arith, q .1, i .same-limit, i .counts, s .usable .left)))
+    (within-limit (steppedLeft H w (lent r word levels) .held .rec) (i .same-limit) (ap suc (i .counts))
+    (omega (arith, i .same-limit, i .counts, s .usable .left))
+    (λ v. let q = after-working (failing H (steppedState H (lent r word levels) .z)) (courseIn r) (suc (r .k)) v in
+    omega (arith, q .1, i .same-limit, i .counts, s .usable .left)))
 ends-within (step-refused {r} {t} p H w word levels k x e) = rw (refused-step-keeps H w (lent r word levels) k x e) (ends-within p)
 ends-within (open-refused {r} {t} p H S xs word levels k x e) = rw (refused-open-keeps H S xs (lent r word levels) k x e) (ends-within p)

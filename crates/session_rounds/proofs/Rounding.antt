@@ -1,4 +1,8 @@
--- One round on a packed word and levels, by the arrays that it is done in. Assumes nothing.
+-- One round on a packed word and levels, by the arrays that it is done in.
+--   next-word         == the bits after the round are a word
+--   next-restorable   == and its levels can be written back
+--   round-left        == what is packed, stored and counted of them is what the round leaves
+-- Assumes nothing.
 use mathlib.Core.Path.{_≡_, ap, _∙_}
 use mathlib.Core.List.{List}
 use Prim.Native.Nat.{ℕ, _*_}

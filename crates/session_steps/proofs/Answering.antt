@@ -1,4 +1,13 @@
--- What opening and a step leave: the record, the word and the counts of an accepted one, and the whole call. Assumes nothing.
+-- What opening and a step leave: the record, the word and the counts of an accepted one, and the whole call.
+--   step-lent                          == an accepted step lends its round what that asks
+--   front-long                         == the bytes of the new word are as many as a word's
+--   step-leaves                        == the record and the report made of a round's counts are the step's
+--   leaves-stepped, leaves-refused     == the whole step, accepted and refused
+--   from-leaves                        == the record and the report made of the counts are the opening's from a start state
+--   open-fillable, cells-word          == an accepted opening on samples may fill the levels; the cells filled are a word
+--   open-leaves                        == the record and the report made of the counts are the opening's on samples
+--   leaves-opened, leaves-unopened     == the whole opening, accepted and refused
+-- Assumes nothing.
 use mathlib.Core.Path.{_≡_, refl, sym, ap, ap₂, _∙_}
 use mathlib.Core.List.{List}
 use Prim.Native.Nat.{ℕ, _+_, _*_, _-_, _<_}
@@ -97,7 +106,8 @@ module _ (H : Matrix) (w : List ℕ) (h : Held) (answer : Answer) (session : Ses
       → Leaves (stepOf H w h) answer session word′ levels′
   leaves-stepped word′ levels′ e l = rw (accepted-steps H w h e) l
 
-  pub leaves-refused : (k x : ℕ) → stepVerdict H w h ≡ refused k x → saidOf answer ≡ refusal k x → recordOf session ≡ h .rec → Leaves (stepOf H w h) answer session (h .word) (h .levels)
+  pub leaves-refused : (k x : ℕ) → stepVerdict H w h ≡ refused k x → saidOf answer ≡ refusal k x → recordOf session ≡ h .rec
+      → Leaves (stepOf H w h) answer session (h .word) (h .levels)
   leaves-refused k x e a r =
       rw (refused-step-keeps H w h k x e) (record { says = a; rec = r; word = refl; levels = refl })
 
@@ -150,7 +160,8 @@ module _ (H : Matrix) (S : Choice) (xs : List Float) (h : Held) (o : Openable H 
     unfolding changedBits startOf
     none-changed = sym (distance-self (H .n) (hardBit xs))
 
-    pub open-leaves : (f : ℕ) (word′ : List ℕ) (answer : Answer) (session : Session) → word′ ≡ over (pack (H .n) (at cells)) (h .word) → f ≡ failing H (at cells)
+    pub open-leaves : (f : ℕ) (word′ : List ℕ) (answer : Answer) (session : Session) → word′ ≡ over (pack (H .n) (at cells)) (h .word)
+        → f ≡ failing H (at cells)
         → recordOf session ≡ recordFor H (stateAfter f (courseFor S) 0) (courseFor S) 0
         → saidOf answer ≡ report (outcomeIn (stateAfter f (courseFor S) 0)) 0 f 0 → Leaves (openedLeft H S xs h) answer session word′ levels′
     open-leaves f word′ answer session w e r a =
@@ -164,6 +175,7 @@ module _ (H : Matrix) (S : Choice) (xs : List Float) (h : Held) (answer : Answer
       → Leaves (openOf H S xs h) answer session word′ levels′
   leaves-opened word′ levels′ e l = rw (accepted-opens H S xs h e) l
 
-  pub leaves-unopened : (k x : ℕ) → openVerdict H S xs h ≡ refused k x → saidOf answer ≡ refusal k x → recordOf session ≡ h .rec → Leaves (openOf H S xs h) answer session (h .word) (h .levels)
+  pub leaves-unopened : (k x : ℕ) → openVerdict H S xs h ≡ refused k x → saidOf answer ≡ refusal k x → recordOf session ≡ h .rec
+      → Leaves (openOf H S xs h) answer session (h .word) (h .levels)
   leaves-unopened k x e a r =
       rw (refused-open-keeps H S xs h k x e) (record { says = a; rec = r; word = refl; levels = refl })

@@ -59,6 +59,7 @@ openedFrom H course s r h = record { said = saysAt H course 0 r (s .z); held = h
 abbrev pub openedLeft : Matrix → Choice → List Float → Held → Left
 openedLeft H S xs h = openedFrom H (courseFor S) (startOf S xs) (hardBit xs) h
 
+-- any opening on samples, by what it asks
 unfoldable pub openOf : Matrix → Choice → List Float → Held → Left
 openOf H S xs h = leave (openVerdict H S xs h) (openedLeft H S xs h) h
 
@@ -78,5 +79,6 @@ steppedLeft H w h =
       held = heldAt H (courseIn (h .rec)) (suc (h .rec .k)) (steppedState H h) h;
     }
 
+-- any step, by what it asks
 unfoldable pub stepOf : Matrix → List ℕ → Held → Left
 stepOf H w h = leave (stepVerdict H w h) (steppedLeft H w h) h

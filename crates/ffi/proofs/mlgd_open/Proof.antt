@@ -40,8 +40,11 @@ turn-code-requires c κs =
     let H : Matrix = matrix (a .n) (a .m) (a .rho) (a .gamma) (a .list .now) in
     let w : List ℕ = a .word .now in
     let ls : List ℤ = a .levels .now in
-    let T : Choice = choiceOf (c .before .before .before .before .before .before .before .before .before .setting-of .result) in
-    (c .before .before .before .before .before .before .before .before .before .before .if1 .left, subst Small (sym (t .ensures .says)) (open-small H T (a .samples .now) (lent (recordOf (s .result)) w ls)))
+    let T : Choice = choiceOf (c .before .before .before .before .before .before .before .before .before .setting-of .result) in (
+      c .before .before .before .before .before .before .before .before .before .before .if1 .left,
+      subst Small (sym (t .ensures .says))
+          (open-small H T (a .samples .now) (lent (recordOf (s .result)) w ls)),
+    )
 
 same-length : tie.Need-same-length
 same-length c = search needs
@@ -54,7 +57,8 @@ same-length-3 c = search needs
 
 returns-2 : tie.Need-returns-2
 returns-2 c =
-    let a = c .before .before .before .before .before .before .before .before .before .before .before .before .before .before .before .before .before .before .args in
+    let b = c .before .before .before .before .before .before .before .before .before in
+    let a = b .before .before .before .before .before .before .before .before .before .args in
     let s = c .before .before .before .before .before .before .before .before .before .before .session-in in
     let t = c .before .before .before .before .before .before .before .open-copy in
     let H : Matrix = matrix (a .n) (a .m) (a .rho) (a .gamma) (a .list .now) in
@@ -69,8 +73,10 @@ returns-2 c =
     let v : Leaves (openOf H S (a .samples .now) h) (t .result .answer) (t .result .session) (t .last .1 .1 .1 .1 .1 .0) (t .last .1 .1 .1 .1 .1 .1 .0) =
     subst (λ (l : Left). Leaves l (t .result .answer) (t .result .session) (t .last .1 .1 .1 .1 .1 .0) (t .last .1 .1 .1 .1 .1 .1 .0)) q (t .ensures) in
     let r = c .before .before .turn-code in
-    on-record (openOf H S (a .samples .now) h) h (r .result) (a .cells .now) (r .last .1 .0) (t .last .1 .1 .1 .1 .1 .0) (t .last .1 .1 .1 .1 .1 .1 .0) (c .before .before .before .before .before .before .before .before .before .before .before .before .before .if1 .left)
-    (called (openOf H S (a .samples .now) h) (t .result .answer) (t .result .session) (r .result) (a .cells .now) (r .last .1 .0) (t .last .1 .1 .1 .1 .1 .0) (t .last .1 .1 .1 .1 .1 .1 .0) v (r .ensures .0) (r .ensures .1))
+    on-record (openOf H S (a .samples .now) h) h (r .result) (a .cells .now) (r .last .1 .0) (t .last .1 .1 .1 .1 .1 .0) (t .last .1 .1 .1 .1 .1 .1 .0)
+    (c .before .before .before .before .before .before .before .before .before .before .before .before .before .if1 .left)
+    (called (openOf H S (a .samples .now) h) (t .result .answer) (t .result .session) (r .result) (a .cells .now) (r .last .1 .0)
+    (t .last .1 .1 .1 .1 .1 .0) (t .last .1 .1 .1 .1 .1 .1 .0) v (r .ensures .0) (r .ensures .1))
 
 pub mlgd-open-spec : {M : Type 1} → statement M
 mlgd-open-spec =
