@@ -1,6 +1,7 @@
 -- A session record as it crosses the exported functions: eight numbers.
---   recordIn c         == the record that eight cells are; a state's number that is none's is taken as empty
---   cellsOf r          == the eight cells of a record
+--   recordCells        == how many they are
+--   recordIn c         == the record that so many cells are; a state's number that is none's is taken as empty
+--   cellsOf r          == the cells of a record
 --   writtenBy s n o    == what an answer s leaves in the cells o: n where it is a report, else o
 -- Assumes nothing.
 use Prim.Native.Nat.{ℕ}
@@ -10,6 +11,10 @@ use Rattle.counting.specs.Lists.{over}
 use Rattle.answers.specs.Paper.{Said, refusal, report}
 use Rattle.session_record.specs.Record.{Record}
 use Rattle.session_record.specs.Sessions.{knownState}
+
+-- one cell for each number of a record
+abbrev pub recordCells : ℕ
+recordCells = 8
 
 -- state, b, round limit, k, n, m, rho, gamma
 abbrev pub recordIn : List ℕ → Record

@@ -18,8 +18,11 @@ ghost use Rattle.counting.specs.Lists.{over};
 ghost use Rattle.quantiser.specs.Settings.{choiceOf};
 ghost use Rattle.session_record.specs.Sessions.{recordOf};
 ghost use Rattle.answer_codes.specs.Codes.{codeOf, Small};
-ghost use Rattle.codes.specs.Records.{recordIn, cellsOf, writtenBy};
+ghost use Rattle.codes.specs.Records.{recordCells, recordIn, cellsOf, writtenBy};
 ghost use Rattle.codes.specs.Settings.{choice, StandsFor};
+
+// How many cells a record is.
+pub const RECORD_CELLS: usize = 8;
 
 // The setting of a kind of step and a step. A third kind is given a step that is out of range, so that it is refused as 6 too.
 pub fn setting_of(bits: u16, limit: u16, kind: u16, step: f32) -> Setting
@@ -46,10 +49,10 @@ pub fn setting_of(bits: u16, limit: u16, kind: u16, step: f32) -> Setting
     }
 }
 
-// The session that eight cells are.
+// The session that a record's cells are.
 // Only this repository's crates call it, after asking for the cells' number.
 pub fn session_in(cells: &[u16]) -> Session
-    requires { ⌜ length (now cells) ≡ 8 ⌝ }
+    requires { ⌜ length (now cells) ≡ recordCells ⌝ }
     ensures { λ r. ⌜ recordOf r ≡ recordIn (now (cells .entry)) ⌝ }
 {
     let state = state_of(cells[0]);
@@ -79,7 +82,7 @@ fn copy_front(from: &[u16], cells: &mut [u16])
 
 // The cells of a session.
 fn session_out(s: Session, cells: &mut [u16])
-    requires { ⌜ length (now cells) ≡ 8 ⌝ }
+    requires { ⌜ length (now cells) ≡ recordCells ⌝ }
     ensures { λ _. ⌜ now (cells .exit) ≡ over (cellsOf (recordOf s)) (now (cells .entry)) ⌝ }
 {
     let state = s.state;
@@ -90,7 +93,7 @@ fn session_out(s: Session, cells: &mut [u16])
 
 // Brings the record up to date, unless the call was refused.
 fn turn_out(turn: Turn, cells: &mut [u16])
-    requires { ⌜ length (now cells) ≡ 8 ⌝ }
+    requires { ⌜ length (now cells) ≡ recordCells ⌝ }
     ensures { λ _. ⌜ now (cells .exit) ≡ writtenBy (saidOf (turn .answer)) (cellsOf (recordOf (turn .session))) (now (cells .entry)) ⌝ }
 {
     let answer = turn.answer;
@@ -104,7 +107,7 @@ fn turn_out(turn: Turn, cells: &mut [u16])
 // The code of a turn, whose record goes to the cells.
 // Only this repository's crates call it, after asking for the cells' number.
 pub fn turn_code(turn: Turn, cells: &mut [u16]) -> u64
-    requires { ⌜ (length (now cells) ≡ 8) × Small (saidOf (turn .answer)) ⌝ }
+    requires { ⌜ (length (now cells) ≡ recordCells) × Small (saidOf (turn .answer)) ⌝ }
     ensures { λ r. ⌜ (r ≡ codeOf (saidOf (turn .answer))) × (now (cells .exit) ≡ writtenBy (saidOf (turn .answer)) (cellsOf (recordOf (turn .session))) (now (cells .entry))) ⌝ }
 {
     let answer = turn.answer;

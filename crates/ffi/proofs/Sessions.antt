@@ -19,16 +19,16 @@ use Rattle.parity_check.specs.Check.{checkOf}
 use Rattle.parity_check.specs.Reading.{Accepted}
 use Rattle.quantiser.specs.Samples.{Choice, settingFits, hardBit}
 use Rattle.iterative.specs.Iterative.{startOf}
-use Rattle.session_record.specs.Record.{Record}
+use Rattle.session_record.specs.Record.{Course, Record, courseIn}
 use Rattle.session_asking.specs.Asked.{Held, openVerdict, stepVerdict}
-use Rattle.session_steps.specs.Steps.{Left, saysAt, openOf, stepOf}
+use Rattle.session_steps.specs.Steps.{Left, courseFor, saysAt, openOf, steppedState, stepOf}
 use Rattle.session_record.specs.Sessions.{recordOf}
-use Rattle.session_steps.specs.Leaving.{steppedState, Leaves}
+use Rattle.session_steps.specs.Leaving.{Leaves}
 use Rattle.session_record.specs.declared.Session.{Session}
 use Rattle.session_asking.proofs.Asking.{accepted-open, accepted-step}
 use Rattle.session_steps.proofs.Leaving.{refused-open-keeps, refused-step-keeps, accepted-opens, accepted-steps}
 use Rattle.codes.specs.Codes.{codeOf, Small}
-use Rattle.codes.specs.Records.{cellsOf, writtenBy}
+use Rattle.codes.specs.Records.{recordCells, cellsOf, writtenBy}
 use Rattle.codes.specs.Settings.{StandsFor}
 use Rattle.ffi.specs.Calls.{leftBy, onRecord, CalledAs}
 use Rattle.parity_check.proofs.Rows.{failing-le}
@@ -40,8 +40,8 @@ verdict-cases accepted f g = f refl
 verdict-cases (refused k x) f g = g k x refl
 
 -- the answer of an accepted call
-says-small : (H : Matrix) → Accepted H → (limit k : ℕ) (r z : ℕ → ℕ) → k < 256 → Small (saysAt H limit k r z)
-says-small H a limit k r z h =
+says-small : (H : Matrix) → Accepted H → (course : Course) (k : ℕ) (r z : ℕ → ℕ) → k < 256 → Small (saysAt H course k r z)
+says-small H a course k r z h =
     record {
       rounds = h;
       failing = omega (arith, failing-le H z, a .sizes .m-most);
@@ -51,7 +51,8 @@ says-small H a limit k r z h =
 pub open-small : (H : Matrix) (S : Choice) (xs : List Float) (h : Held) → Small (openOf H S xs h .said)
 open-small H S xs h =
     verdict-cases (openVerdict H S xs h)
-    (λ e. subst (λ (l : Left). Small (l .said)) (sym (accepted-opens H S xs h e)) (says-small H (accepted-open H S xs h e .matrix) (S .limit) 0 (hardBit xs) (startOf S xs .z) (omega arith)))
+    (λ e. subst (λ (l : Left). Small (l .said)) (sym (accepted-opens H S xs h e))
+    (says-small H (accepted-open H S xs h e .matrix) (courseFor S) 0 (hardBit xs) (startOf S xs .z) (omega arith)))
     (λ k x e. subst (λ (l : Left). Small (l .said)) (sym (refused-open-keeps H S xs h k x e)) tt)
 
 pub step-small : (H : Matrix) (w : List ℕ) (h : Held) → Small (stepOf H w h .said)
@@ -59,7 +60,7 @@ step-small H w h =
     verdict-cases (stepVerdict H w h)
     (λ e. subst (λ (l : Left). Small (l .said)) (sym (accepted-steps H w h e))
     (let p = accepted-step H w h e in
-    says-small H (p .matrix) (h .rec .limit) (suc (h .rec .k)) (bitAt w) (steppedState H h .z) (omega (arith, p .usable .limit, p .usable .left))))
+    says-small H (p .matrix) (courseIn (h .rec)) (suc (h .rec .k)) (bitAt w) (steppedState H h .z) (omega (arith, p .usable .limit, p .usable .left))))
     (λ k x e. subst (λ (l : Left). Small (l .said)) (sym (refused-step-keeps H w h k x e)) tt)
 
 -- a refusal by 6 is a refusal
@@ -89,14 +90,16 @@ called l a s r cells cells′ word′ levels′ v e c =
       levels = v .levels;
     }
 
--- eight cells are a record
-pub on-eight : (l : Left) (h : Held) (r : ℕ) (cells cells′ word′ : List ℕ) (levels′ : List ℤ) → length cells ≡ 8 → CalledAs l r cells cells′ word′ levels′
+-- as many cells as a record's are a record
+pub on-record : (l : Left) (h : Held) (r : ℕ) (cells cells′ word′ : List ℕ) (levels′ : List ℤ) → length cells ≡ recordCells
+    → CalledAs l r cells cells′ word′ levels′
     → CalledAs (onRecord cells l h) r cells cells′ word′ levels′
-on-eight l h r cells cells′ word′ levels′ e c =
-    subst (λ (b : Bool). CalledAs (leftBy b l h) r cells cells′ word′ levels′) (sym (eq-eqb (length cells) 8 e)) c
+on-record l h r cells cells′ word′ levels′ e c =
+    subst (λ (b : Bool). CalledAs (leftBy b l h) r cells cells′ word′ levels′) (sym (eq-eqb (length cells) recordCells e)) c
 
 -- any other number of cells is refused as 7
-pub not-eight : (l : Left) (h : Held) (cells : List ℕ) → (length cells ≡ 8 → ⊥) → CalledAs (onRecord cells l h) 458752 cells cells (h .word) (h .levels)
-not-eight l h cells ne =
-    subst (λ (b : Bool). CalledAs (leftBy b l h) 458752 cells cells (h .word) (h .levels)) (sym (ne-eqb (length cells) 8 ne))
+pub no-record : (l : Left) (h : Held) (cells : List ℕ) → (length cells ≡ recordCells → ⊥)
+    → CalledAs (onRecord cells l h) 458752 cells cells (h .word) (h .levels)
+no-record l h cells ne =
+    subst (λ (b : Bool). CalledAs (leftBy b l h) 458752 cells cells (h .word) (h .levels)) (sym (ne-eqb (length cells) recordCells ne))
     (record { answer = refl; rec = refl; word = refl; levels = refl })

@@ -2,7 +2,7 @@
 --   QuantisedAs S ..     == what `mlgd_quantise` answers and writes
 --   DecodedAs H S ..     == what `mlgd_iterative` answers and writes
 --   leftBy t l h         == l where the test t passes, else refusal 7 with h kept
---   onRecord c l h       == what a call leaves that is lent the cells c: l, or refusal 7 where they are not eight
+--   onRecord c l h       == what a call leaves that is lent the cells c: l, or refusal 7 where they are not as many as a record's
 --   CalledAs l ..        == the answer and every lent cell after a call are those of l
 -- Assumes nothing.
 use Prim.Native.Nat.{ℕ}
@@ -20,7 +20,7 @@ use Rattle.iterative.specs.Iterative.{iterativeVerdict, iterativeOf, iterativeW
 use Rattle.session_asking.specs.Asked.{Held}
 use Rattle.session_steps.specs.Steps.{Left}
 use Rattle.codes.specs.Codes.{codeOf}
-use Rattle.codes.specs.Records.{cellsOf, writtenBy}
+use Rattle.codes.specs.Records.{recordCells, cellsOf, writtenBy}
 
 -- the quantiser: the code, the levels and the word, refused calls too
 pub record QuantisedAs (S : Choice) (xs : List Float) (r : ℕ) (ls ls′ : List ℤ) (w w′ : List ℕ) : Type 0 where
@@ -34,13 +34,13 @@ pub record DecodedAs (H : Matrix) (S : Choice) (xs : List Float) (r : ℕ) (w w�
   pub word : w′ ≡ written (iterativeVerdict H S xs (length w) (length ls)) (iterativeWord H S xs) w
   pub levels : ls′ ≡ written (iterativeVerdict H S xs (length w) (length ls)) (iterativeLevels H S xs) ls
 
--- "another length than 8 is refused as 7 before anything else is asked"
+-- another number of cells than a record's is refused as 7 before anything else is asked
 abbrev pub leftBy : Bool → Left → Held → Left
 leftBy true l h = l
 leftBy false l h = record { said = refusal 7 0; held = h }
 
 abbrev pub onRecord : List ℕ → Left → Held → Left
-onRecord c l h = leftBy (eqb (length c) 8) l h
+onRecord c l h = leftBy (eqb (length c) recordCells) l h
 
 pub record CalledAs (l : Left) (r : ℕ) (cells cells′ word′ : List ℕ) (levels′ : List ℤ) : Type 0 where
   pub answer : r ≡ codeOf (l .said)

@@ -1,6 +1,7 @@
 // Exported functions for tests and benchmarks: each answer is one number of 64 bits.
 // Rests on every decoder and on `codes`. Design, section 4: the test face.
 use answers::Answer;
+use codes::RECORD_CELLS;
 use codes::answer_code;
 use codes::checked_code;
 use codes::counted_code;
@@ -25,8 +26,8 @@ ghost use Rattle.codes.specs.Records.{recordIn};
 ghost use Rattle.codes.specs.Settings.{choice};
 ghost use Rattle.ffi.specs.Calls.{QuantisedAs, DecodedAs, onRecord, CalledAs};
 
-// Refusal 7: what a call answers that is lent a record of another length than 8.
-const NOT_EIGHT: u64 = 458752;
+// Refusal 7: what a call answers that is lent another number of cells than a record's.
+const NO_RECORD: u64 = 458752;
 
 // The matrix check.
 #[no_mangle]
@@ -138,8 +139,8 @@ pub extern "C" fn mlgd_open(
 ) -> u64
     ensures { λ r. ⌜ CalledAs (onRecord (now (cells .entry)) (openOf (matrix n m rho gamma (now (list .entry))) (choice bits limit kind step) (now (samples .entry)) (lent (recordIn (now (cells .entry))) (now (word .entry)) (now (levels .entry)))) (lent (recordIn (now (cells .entry))) (now (word .entry)) (now (levels .entry)))) r (now (cells .entry)) (now (cells .exit)) (now (word .exit)) (now (levels .exit)) ⌝ }
 {
-    if cells.len() != 8 {
-        return NOT_EIGHT;
+    if cells.len() != RECORD_CELLS {
+        return NO_RECORD;
     }
     let shape = Shape { n, m, rho, gamma };
     let setting = setting_of(bits, limit, kind, step);
@@ -163,8 +164,8 @@ pub extern "C" fn mlgd_step(
 ) -> u64
     ensures { λ r. ⌜ CalledAs (onRecord (now (cells .entry)) (stepOf (matrix n m rho gamma (now (list .entry))) (now (received .entry)) (lent (recordIn (now (cells .entry))) (now (word .entry)) (now (levels .entry)))) (lent (recordIn (now (cells .entry))) (now (word .entry)) (now (levels .entry)))) r (now (cells .entry)) (now (cells .exit)) (now (word .exit)) (now (levels .exit)) ⌝ }
 {
-    if cells.len() != 8 {
-        return NOT_EIGHT;
+    if cells.len() != RECORD_CELLS {
+        return NO_RECORD;
     }
     let shape = Shape { n, m, rho, gamma };
     let s = session_in(cells);

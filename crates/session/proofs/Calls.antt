@@ -15,11 +15,10 @@ use Rattle.parity_check.proofs.Rows.{failing-cong}
 use Rattle.quantiser.specs.Samples.{Choice, largest}
 use Rattle.iterative.specs.Rounds.{State}
 use Rattle.iterative.specs.Iterative.{startOf}
-use Rattle.session_record.specs.Record.{Record, working, decoded, failed, stateAfter}
+use Rattle.session_record.specs.Record.{Course, Record, working, decoded, failed, courseIn, stateAfter}
 use Rattle.session_asking.specs.Asked.{Held, lent, openVerdict, stepVerdict}
 use Rattle.session_asking.specs.Reading.{Steppable}
-use Rattle.session_steps.specs.Steps.{heldAt, openOf, heldState, stepOf}
-use Rattle.session_steps.specs.Leaving.{openedLeft, steppedState, steppedLeft}
+use Rattle.session_steps.specs.Steps.{courseFor, heldAt, openedLeft, openOf, stateIn, steppedState, steppedLeft, stepOf}
 use Rattle.session.specs.Stepping.{Means, Ran, opened, stepped, step-refused, open-refused, Within}
 use Rattle.session_asking.proofs.Asking.{accepted-open, accepted-step}
 use Rattle.session_steps.proofs.Leaving.{refused-open-keeps, refused-step-keeps, accepted-opens, accepted-steps, start-bits, round-bits}
@@ -27,46 +26,49 @@ use Rattle.session.proofs.Buffers.{bits-back}
 
 -- ---- what the state says
 
-module _ (f k limit : ℕ) where
-  pub after-working : stateAfter f k limit ≡ working → (f ≡ 0 → ⊥) × (k ≡ limit → ⊥)
+module _ (f : ℕ) (course : Course) (k : ℕ) where
+  pub after-working : stateAfter f course k ≡ working → (f ≡ 0 → ⊥) × (k ≡ course .limit → ⊥)
   after-working e =
       cases (eqb f 0) (λ y. absurd (let q : 2 ≡ working = rw y at e in omega arith))
-      (λ n. cases (eqb k limit) (λ y. absurd (let q : 3 ≡ working = rw (n, y) at e in omega arith)) (λ m. (eqb-false f 0 n, eqb-false k limit m)))
+      (λ n. cases (eqb k (course .limit)) (λ y. absurd (let q : 3 ≡ working = rw (n, y) at e in omega arith))
+      (λ m. (eqb-false f 0 n, eqb-false k (course .limit) m)))
 
-  after-decoded : stateAfter f k limit ≡ decoded → f ≡ 0
+  after-decoded : stateAfter f course k ≡ decoded → f ≡ 0
   after-decoded e =
       cases (eqb f 0) (λ y. eqb-true f 0 y)
-      (λ n. cases (eqb k limit) (λ y. absurd (let q : 3 ≡ decoded = rw (n, y) at e in omega arith)) (λ m. absurd (let q : 1 ≡ decoded = rw (n, m) at e in omega arith)))
+      (λ n. cases (eqb k (course .limit)) (λ y. absurd (let q : 3 ≡ decoded = rw (n, y) at e in omega arith))
+      (λ m. absurd (let q : 1 ≡ decoded = rw (n, m) at e in omega arith)))
 
-  after-failed : stateAfter f k limit ≡ failed → (k ≡ limit) × (f ≡ 0 → ⊥)
+  after-failed : stateAfter f course k ≡ failed → (k ≡ course .limit) × (f ≡ 0 → ⊥)
   after-failed e =
       cases (eqb f 0) (λ y. absurd (let q : 2 ≡ failed = rw y at e in omega arith))
-      (λ n. cases (eqb k limit) (λ y. (eqb-true k limit y, eqb-false f 0 n)) (λ m. absurd (let q : 1 ≡ failed = rw (n, m) at e in omega arith)))
+      (λ n. cases (eqb k (course .limit)) (λ y. (eqb-true k (course .limit) y, eqb-false f 0 n))
+      (λ m. absurd (let q : 1 ≡ failed = rw (n, m) at e in omega arith)))
 
 -- the state of the record is that of the word beside it
-held-means : (H : Matrix) → Rows H → (bits limit k : ℕ) (s : State) (h : Held) → ((j : ℕ) → s .z j < 2) → k ≤ limit
-    → Means H (heldAt H bits limit k s h .rec) (bitAt (heldAt H bits limit k s h .word))
-held-means H r bits limit k s h b l =
-    let f : failing H (bitAt (heldAt H bits limit k s h .word)) ≡ failing H (s .z) =
-    failing-cong H r (bitAt (heldAt H bits limit k s h .word)) (s .z) (bits-back (H .n) (s .z) (λ j m. b j) (h .word)) in
+held-means : (H : Matrix) → Rows H → (course : Course) (k : ℕ) (s : State) (h : Held) → ((j : ℕ) → s .z j < 2) → k ≤ course .limit
+    → Means H (heldAt H course k s h .rec) (bitAt (heldAt H course k s h .word))
+held-means H r course k s h b l =
+    let f : failing H (bitAt (heldAt H course k s h .word)) ≡ failing H (s .z) =
+    failing-cong H r (bitAt (heldAt H course k s h .word)) (s .z) (bits-back (H .n) (s .z) (λ j m. b j) (h .word)) in
     record {
-      if-working = λ e. let p = after-working (failing H (s .z)) k limit e in (omega (arith, p .1), omega (arith, p .0));
-      if-decoded = λ e. f ∙ after-decoded (failing H (s .z)) k limit e;
-      if-failed = λ e. let p = after-failed (failing H (s .z)) k limit e in (p .0, omega (arith, p .1));
+      if-working = λ e. let p = after-working (failing H (s .z)) course k e in (omega (arith, p .1), omega (arith, p .0));
+      if-decoded = λ e. f ∙ after-decoded (failing H (s .z)) course k e;
+      if-failed = λ e. let p = after-failed (failing H (s .z)) course k e in (p .0, omega (arith, p .1));
     }
 
 pub open-means : (H : Matrix) (S : Choice) (xs : List Float) (h : Held) → openVerdict H S xs h ≡ accepted
     → Means H (openOf H S xs h .held .rec) (bitAt (openOf H S xs h .held .word))
 open-means H S xs h e =
     rw (accepted-opens H S xs h e)
-    (held-means H (accepted-open H S xs h e .matrix .rows) (S .bits) (S .limit) 0 (startOf S xs) h (start-bits S xs) (omega arith))
+    (held-means H (accepted-open H S xs h e .matrix .rows) (courseFor S) 0 (startOf S xs) h (start-bits S xs) (omega arith))
 
 pub step-means : (H : Matrix) (w : List ℕ) (h : Held) → stepVerdict H w h ≡ accepted → Means H (stepOf H w h .held .rec) (bitAt (stepOf H w h .held .word))
 step-means H w h e =
     let s : Steppable H w h = accepted-step H w h e in
     rw (accepted-steps H w h e)
-    (held-means H (s .matrix .rows) (h .rec .bits) (h .rec .limit) (suc (h .rec .k)) (steppedState H h) h
-    (round-bits H (largest (h .rec .bits)) (heldState h)) (omega (arith, s .usable .left)))
+    (held-means H (s .matrix .rows) (courseIn (h .rec)) (suc (h .rec .k)) (steppedState H h) h
+    (round-bits H (largest (h .rec .bits)) (stateIn (h .word) (h .levels))) (omega (arith, s .usable .left)))
 
 -- ---- a session ends
 
@@ -85,12 +87,14 @@ pub ends-within : {limit : ℕ} {r : Record} {t : ℕ} → Ran limit r t → Wit
 ends-within (opened H S xs h e q) =
     rw (accepted-opens H S xs h e)
     (within-limit (openedLeft H S xs h .held .rec) q refl (omega arith)
-    (λ w. let p = after-working (failing H (startOf S xs .z)) 0 (S .limit) w in omega (arith, p .1)))
+    (λ w. let p = after-working (failing H (startOf S xs .z)) (courseFor S) 0 w in omega (arith, p .1)))
 ends-within (stepped {r} {t} p H w word levels e) =
     let s : Steppable H w (lent r word levels) = accepted-step H w (lent r word levels) e in
     let i : Within _ r t = ends-within p in
     rw (accepted-steps H w (lent r word levels) e)
-    (within-limit (steppedLeft H w (lent r word levels) .held .rec) (i .same-limit) (ap suc (i .counts)) (omega (arith, i .same-limit, i .counts, s .usable .left))
-    (λ v. let q = after-working (failing H (steppedState H (lent r word levels) .z)) (suc (r .k)) (r .limit) v in omega (arith, q .1, i .same-limit, i .counts, s .usable .left)))
+    (within-limit (steppedLeft H w (lent r word levels) .held .rec) (i .same-limit) (ap suc (i .counts))
+    (omega (arith, i .same-limit, i .counts, s .usable .left))
+    (λ v. let q = after-working (failing H (steppedState H (lent r word levels) .z)) (courseIn r) (suc (r .k)) v in
+    omega (arith, q .1, i .same-limit, i .counts, s .usable .left)))
 ends-within (step-refused {r} {t} p H w word levels k x e) = rw (refused-step-keeps H w (lent r word levels) k x e) (ends-within p)
 ends-within (open-refused {r} {t} p H S xs word levels k x e) = rw (refused-open-keeps H S xs (lent r word levels) k x e) (ends-within p)

@@ -49,7 +49,8 @@ pub record Means (H : Matrix) (r : Record) (z : ℕ → ℕ) : Type 0 where
 -- "A session whose record only its own calls change": the record goes from call to call,
 -- the matrix and the buffers lent to a call may be any; `limit` is the round limit of the opening
 pub data Ran (limit : ℕ) : Record → ℕ → Type 0 where
-  opened : (H : Matrix) (S : Choice) (xs : List Float) (h : Held) → openVerdict H S xs h ≡ accepted → S .limit ≡ limit → Ran limit (openOf H S xs h .held .rec) 0
+  opened : (H : Matrix) (S : Choice) (xs : List Float) (h : Held) → openVerdict H S xs h ≡ accepted → S .limit ≡ limit
+      → Ran limit (openOf H S xs h .held .rec) 0
   stepped : {r : Record} {t : ℕ} → Ran limit r t → (H : Matrix) (w word : List ℕ) (levels : List ℤ) → stepVerdict H w (lent r word levels) ≡ accepted
       → Ran limit (stepOf H w (lent r word levels) .held .rec) (suc t)
   step-refused : {r : Record} {t : ℕ} → Ran limit r t → (H : Matrix) (w word : List ℕ) (levels : List ℤ) (k x : ℕ)

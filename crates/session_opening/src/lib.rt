@@ -5,6 +5,7 @@ use answers::Refusal;
 use parity_check::Shape;
 use quantiser::Setting;
 use session_asking::wrong_lengths;
+use session_record::Course;
 use session_record::Session;
 use session_record::Turn;
 ghost use mathlib.Core.Path.{_≡_};
@@ -16,8 +17,8 @@ ghost use Rattle.iterative_core.specs.Iterative.{iterativeVerdict};
 ghost use Rattle.session_asking.specs.Asked.{lent};
 ghost use Rattle.session_asking.specs.Reading.{Openable};
 ghost use Rattle.session_asking.specs.Parts.{heldOf, samplesVerdict};
-ghost use Rattle.session_steps.specs.Steps.{openOf};
-ghost use Rattle.session_steps.specs.Leaving.{blank, openedLeft, Leaves};
+ghost use Rattle.session_steps.specs.Steps.{openedLeft, openOf};
+ghost use Rattle.session_steps.specs.Leaving.{blank, Leaves};
 
 // What opening asks once its matrix is accepted: 6, 7, 8.
 fn ask_samples(n: usize, setting: Setting, samples: &[f32], bytes: usize, room: usize) -> Checked
@@ -69,13 +70,15 @@ fn open_accepted(
     ensures { λ r. ⌜ Leaves (openedLeft (matrixOf shape (now (list .entry))) (choiceOf setting) (now (samples .entry)) (lent blank (now (word .entry)) (now (levels .entry)))) (r .answer) (r .session) (now (word .exit)) (now (levels .exit)) ⌝ }
 {
     let n = shape.n as usize;
-    let bits = setting.bits;
-    let limit = setting.limit;
+    let course = Course {
+        bits: setting.bits,
+        limit: setting.limit,
+    };
     let mut cells = [0u8; 1023];
     quantiser::fill(setting, samples, levels, &mut cells);
     packed_word::pack_into(&cells, n, word);
     let failing = syndrome::failing_count(shape, list, &cells);
-    session_record::after_round(shape, bits, limit, 0, failing, 0)
+    session_record::after_round(shape, course, 0, failing, 0)
 }
 
 // Opens a session, by value: the record in and out. A refused opening hands the record back.

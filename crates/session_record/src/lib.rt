@@ -11,7 +11,7 @@ ghost use Rattle.answers.specs.Paper.{refusal, report};
 ghost use Rattle.answers.specs.Answers.{numberOf, placeOf, outcomeOf, saidOf};
 ghost use Rattle.parity_check.specs.Shapes.{matrixOf};
 ghost use Rattle.session_record.specs.Record.{recordFor, stateAfter, outcomeIn};
-ghost use Rattle.session_record.specs.Sessions.{stateNumber, knownState, recordOf};
+ghost use Rattle.session_record.specs.Sessions.{stateNumber, knownState, courseOf, recordOf};
 
 // How a session stands.
 pub enum State {
@@ -19,6 +19,12 @@ pub enum State {
     Working,
     Decoded,
     Failed,
+}
+
+// What stays through a session: bit width and round limit.
+pub struct Course {
+    pub bits: u16,
+    pub limit: u16,
 }
 
 // The caller's record of a session: its state, bit width, round limit, round and sizes.
@@ -68,13 +74,13 @@ pub fn state_of(number: u16) -> State
 }
 
 // Steps 2 and 3: how a word with so many failing checks leaves the session.
-fn state_after(failing: u16, k: u16, limit: u16) -> State
-    ensures { λ r. ⌜ stateNumber r ≡ stateAfter failing k limit ⌝ }
+fn state_after(failing: u16, course: Course, k: u16) -> State
+    ensures { λ r. ⌜ stateNumber r ≡ stateAfter failing (courseOf course) k ⌝ }
 {
     if failing == 0 {
         return State::Decoded;
     }
-    if k == limit {
+    if k == course.limit {
         return State::Failed;
     }
     State::Working
@@ -93,16 +99,16 @@ fn outcome_in(state: State) -> Outcome
 }
 
 // The record and the answer after round k.
-pub fn after_round(shape: Shape, bits: u16, limit: u16, k: u16, failing: u16, changed: u16) -> Turn
-    ensures { λ r. ⌜ (recordOf (r .session) ≡ recordFor (matrixOf shape []) (stateAfter failing k limit) bits limit k)
-        × (saidOf (r .answer) ≡ report (outcomeIn (stateAfter failing k limit)) k failing changed) ⌝ }
+pub fn after_round(shape: Shape, course: Course, k: u16, failing: u16, changed: u16) -> Turn
+    ensures { λ r. ⌜ (recordOf (r .session) ≡ recordFor (matrixOf shape []) (stateAfter failing (courseOf course) k) (courseOf course) k)
+        × (saidOf (r .answer) ≡ report (outcomeIn (stateAfter failing (courseOf course) k)) k failing changed) ⌝ }
 {
-    let state = state_after(failing, k, limit);
+    let state = state_after(failing, course, k);
     let outcome = outcome_in(state);
     let session = Session {
         state,
-        bits,
-        limit,
+        bits: course.bits,
+        limit: course.limit,
         k,
         n: shape.n,
         m: shape.m,

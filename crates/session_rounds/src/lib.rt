@@ -2,18 +2,19 @@
 // Rests on `session_steps`, `session_asking`, `session_record`, `iterative_core`, `soft_levels`, `packed_word`, `votes` and `syndrome`. Document 01: "Rounds one at a time".
 use answers::Checked;
 use parity_check::Shape;
+use session_record::Course;
 use session_record::Session;
 use session_record::Turn;
 ghost use Rattle.parity_check.specs.Shapes.{matrixOf};
 ghost use Rattle.session_asking.specs.Reading.{Steppable};
 ghost use Rattle.session_asking.specs.Parts.{heldOf};
-ghost use Rattle.session_steps.specs.Steps.{stepOf};
-ghost use Rattle.session_steps.specs.Leaving.{steppedLeft, Leaves, Lent, Turned};
+ghost use Rattle.session_steps.specs.Steps.{steppedLeft, stepOf};
+ghost use Rattle.session_steps.specs.Leaving.{Leaves, RoundLent, RoundLeft};
 
 // Steps 4 to 6 on the word and the levels lent, and how many checks of the new word fail.
 fn round_on(shape: Shape, list: &[u16], middle: u8, word: &mut [u8], levels: &mut [i8]) -> u16
-    requires { ⌜ Lent (matrixOf shape (now list)) middle (now word) (now levels) ⌝ }
-    ensures { λ r. ⌜ Turned (matrixOf shape (now (list .entry))) middle (now (word .entry)) (now (word .exit)) (now (levels .entry)) (now (levels .exit)) r ⌝ }
+    requires { ⌜ RoundLent (matrixOf shape (now list)) middle (now word) (now levels) ⌝ }
+    ensures { λ r. ⌜ RoundLeft (matrixOf shape (now (list .entry))) middle (now (word .entry)) (now (word .exit)) (now (levels .entry)) (now (levels .exit)) r ⌝ }
 {
     let n = shape.n as usize;
     let gamma = shape.gamma;
@@ -44,13 +45,15 @@ fn step_accepted(
 {
     let n = shape.n as usize;
     let need = (n + 7) / 8;
-    let bits = session.bits;
-    let limit = session.limit;
+    let course = Course {
+        bits: session.bits,
+        limit: session.limit,
+    };
     let k = session.k;
-    let middle = iterative_core::middle_of(bits);
+    let middle = iterative_core::middle_of(course.bits);
     let failing = round_on(shape, list, middle, word, levels);
     let changed = packed_word::differing(&word[..need], received);
-    session_record::after_round(shape, bits, limit, k + 1, failing, changed)
+    session_record::after_round(shape, course, k + 1, failing, changed)
 }
 
 // One step of a session, by value: the record in and out. A refused step hands the record back.

@@ -1,4 +1,8 @@
--- One call: what a refused one and an accepted one leave, and that the words they leave are bits. Assumes nothing.
+-- One call: what a refused one and an accepted one leave, and that the words they leave are bits.
+--   refused-open-keeps, refused-step-keeps   == a refused call leaves everything, and says its refusal
+--   accepted-opens, accepted-steps           == an accepted one says and leaves what its definition gives
+--   start-bits, round-bits                   == the words that opening and a round leave are bits
+-- Assumes nothing.
 use mathlib.Core.Path.{_≡_}
 use mathlib.Core.List.{List}
 use Prim.Native.Nat.{ℕ, _<_}
@@ -11,8 +15,7 @@ use Rattle.soft_rounds.specs.Rounds.{State, levelAfter, roundOf}
 use Rattle.iterative_core.specs.Iterative.{startOf}
 use Rattle.soft_levels.proofs.Levels.{above-bit}
 use Rattle.session_asking.specs.Asked.{Held, openVerdict, stepVerdict}
-use Rattle.session_steps.specs.Steps.{openOf, stepOf}
-use Rattle.session_steps.specs.Leaving.{openedLeft, steppedLeft}
+use Rattle.session_steps.specs.Steps.{openedLeft, openOf, steppedLeft, stepOf}
 
 -- a refused call leaves everything, and says its refusal
 pub refused-open-keeps : (H : Matrix) (S : Choice) (xs : List Float) (h : Held) (k x : ℕ) → openVerdict H S xs h ≡ refused k x
@@ -20,7 +23,8 @@ pub refused-open-keeps : (H : Matrix) (S : Choice) (xs : List Float) (h : Held) 
 unfolding openOf
 refused-open-keeps H S xs h k x e = rw e
 
-pub refused-step-keeps : (H : Matrix) (w : List ℕ) (h : Held) (k x : ℕ) → stepVerdict H w h ≡ refused k x → stepOf H w h ≡ record { said = refusal k x; held = h }
+pub refused-step-keeps : (H : Matrix) (w : List ℕ) (h : Held) (k x : ℕ) → stepVerdict H w h ≡ refused k x
+    → stepOf H w h ≡ record { said = refusal k x; held = h }
 unfolding stepOf
 refused-step-keeps H w h k x e = rw e
 

@@ -43,8 +43,12 @@ loop-again : tie.Need-loop-again Inv-loop μ-loop
 loop-again c =
     let a = c .before .before .before .args in
     let l = c .before .before .loop in
-    let v : ℕ = getD (a .from .now) (l .i) 0 in
-    (omega arith, length-set (l .cells) (l .i) v ∙ l .inv .1, over-next (at (a .from .now)) (a .cells .now) (l .cells) (l .i) v (omega (arith, c .before .before .before .pre)) refl (l .inv .2))
+    let v : ℕ = getD (a .from .now) (l .i) 0 in (
+      omega arith,
+      length-set (l .cells) (l .i) v ∙ l .inv .1,
+      over-next (at (a .from .now)) (a .cells .now) (l .cells) (l .i) v
+          (omega (arith, c .before .before .before .pre)) refl (l .inv .2),
+    )
 
 same-length : tie.Need-same-length Inv-loop μ-loop
 same-length c = omega arith

@@ -1,4 +1,4 @@
--- `codes::session_out` meets its contract: the eight cells are copied to the front. Assumes nothing.
+-- `codes::session_out` meets its contract: the record's cells are copied to the front. Assumes nothing.
 use mathlib.Core.Path.{ap, _∙_}
 use mathlib.Core.List.{[], _∷_}
 use Prim.Native.Nat.{ℕ}
@@ -24,7 +24,8 @@ returns c =
     let a = c .before .before .before .before .before .before .before .args in
     let s = a .s in
     c .before .before .copy-front .ensures
-    ∙ ap (λ (x : ℕ). over (x ∷ s .bits ∷ s .limit ∷ s .k ∷ s .n ∷ s .m ∷ s .rho ∷ s .gamma ∷ []) (a .cells .now)) (c .before .before .before .before .before .number-of .ensures)
+    ∙ ap (λ (x : ℕ). over (x ∷ s .bits ∷ s .limit ∷ s .k ∷ s .n ∷ s .m ∷ s .rho ∷ s .gamma ∷ []) (a .cells .now))
+    (c .before .before .before .before .before .number-of .ensures)
 
 pub session-out-spec : {M : Type 1} → statement M
 session-out-spec =

@@ -24,7 +24,8 @@ returns : tie.Need-returns
 returns c =
     let a = c .before .before .before .before .before .before .before .before .args in
     c .before .before .session-out .ensures
-    ∙ ap (λ (x : Answer). writtenBy (saidOf x) (cellsOf (recordOf (a .turn .session))) (a .cells .now)) (sym (c .before .before .before .before .enum-told .given .1))
+    ∙ ap (λ (x : Answer). writtenBy (saidOf x) (cellsOf (recordOf (a .turn .session))) (a .cells .now))
+    (sym (c .before .before .before .before .enum-told .given .1))
 
 returns-2 : tie.Need-returns-2
 returns-2 c = search needs

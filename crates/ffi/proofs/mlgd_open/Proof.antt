@@ -1,4 +1,4 @@
--- `ffi::mlgd_open` meets its contract: eight cells are a record, and the opening's answer and cells are the definition's. Assumes nothing.
+-- `ffi::mlgd_open` meets its contract: the cells are a record, and the opening's answer and cells are the definition's. Assumes nothing.
 use mathlib.Core.Path.{_≡_, sym, ap, subst, _∙_}
 use mathlib.Core.List.{List}
 use Prim.Native.Nat.{ℕ}
@@ -15,13 +15,13 @@ use Rattle.codes.specs.Records.{recordIn}
 use Rattle.quantiser.specs.Samples.{Choice}
 use Rattle.quantiser.specs.Settings.{choiceOf}
 use Rattle.codes.specs.Settings.{choice}
-use Rattle.ffi.proofs.Sessions.{open-small, open-alike, called, on-eight, not-eight}
+use Rattle.ffi.proofs.Sessions.{open-small, open-alike, called, on-record, no-record}
 use borrow.Author.Needs.{needs}
 use Rattle.ffi.proofs.mlgd_open.Statement.{statement}
 use Rattle.ffi.proofs.mlgd_open.Tie as tie
 
 returns : tie.Need-returns
-returns c = not-eight _ _ (c .before .before .before .before .before .args .cells .now) (c .if1 .taken)
+returns c = no-record _ _ (c .before .before .before .before .before .args .cells .now) (c .if1 .taken)
 
 setting-of-requires : tie.Need-setting-of-requires
 setting-of-requires c κs = search needs
@@ -40,8 +40,11 @@ turn-code-requires c κs =
     let H : Matrix = matrix (a .n) (a .m) (a .rho) (a .gamma) (a .list .now) in
     let w : List ℕ = a .word .now in
     let ls : List ℤ = a .levels .now in
-    let T : Choice = choiceOf (c .before .before .before .before .before .before .before .before .before .setting-of .result) in
-    (c .before .before .before .before .before .before .before .before .before .before .if1 .left, subst Small (sym (t .ensures .says)) (open-small H T (a .samples .now) (lent (recordOf (s .result)) w ls)))
+    let T : Choice = choiceOf (c .before .before .before .before .before .before .before .before .before .setting-of .result) in (
+      c .before .before .before .before .before .before .before .before .before .before .if1 .left,
+      subst Small (sym (t .ensures .says))
+          (open-small H T (a .samples .now) (lent (recordOf (s .result)) w ls)),
+    )
 
 same-length : tie.Need-same-length
 same-length c = search needs
@@ -54,7 +57,8 @@ same-length-3 c = search needs
 
 returns-2 : tie.Need-returns-2
 returns-2 c =
-    let a = c .before .before .before .before .before .before .before .before .before .before .before .before .before .before .before .before .before .before .args in
+    let b = c .before .before .before .before .before .before .before .before .before in
+    let a = b .before .before .before .before .before .before .before .before .before .args in
     let s = c .before .before .before .before .before .before .before .before .before .before .session-in in
     let t = c .before .before .before .before .before .before .before .open-copy in
     let H : Matrix = matrix (a .n) (a .m) (a .rho) (a .gamma) (a .list .now) in
@@ -69,8 +73,10 @@ returns-2 c =
     let v : Leaves (openOf H S (a .samples .now) h) (t .result .answer) (t .result .session) (t .last .1 .1 .1 .1 .1 .0) (t .last .1 .1 .1 .1 .1 .1 .0) =
     subst (λ (l : Left). Leaves l (t .result .answer) (t .result .session) (t .last .1 .1 .1 .1 .1 .0) (t .last .1 .1 .1 .1 .1 .1 .0)) q (t .ensures) in
     let r = c .before .before .turn-code in
-    on-eight (openOf H S (a .samples .now) h) h (r .result) (a .cells .now) (r .last .1 .0) (t .last .1 .1 .1 .1 .1 .0) (t .last .1 .1 .1 .1 .1 .1 .0) (c .before .before .before .before .before .before .before .before .before .before .before .before .before .if1 .left)
-    (called (openOf H S (a .samples .now) h) (t .result .answer) (t .result .session) (r .result) (a .cells .now) (r .last .1 .0) (t .last .1 .1 .1 .1 .1 .0) (t .last .1 .1 .1 .1 .1 .1 .0) v (r .ensures .0) (r .ensures .1))
+    on-record (openOf H S (a .samples .now) h) h (r .result) (a .cells .now) (r .last .1 .0) (t .last .1 .1 .1 .1 .1 .0) (t .last .1 .1 .1 .1 .1 .1 .0)
+    (c .before .before .before .before .before .before .before .before .before .before .before .before .before .if1 .left)
+    (called (openOf H S (a .samples .now) h) (t .result .answer) (t .result .session) (r .result) (a .cells .now) (r .last .1 .0)
+    (t .last .1 .1 .1 .1 .1 .0) (t .last .1 .1 .1 .1 .1 .1 .0) v (r .ensures .0) (r .ensures .1))
 
 pub mlgd-open-spec : {M : Type 1} → statement M
 mlgd-open-spec =

@@ -1,4 +1,4 @@
--- `ffi::mlgd_step` meets its contract: eight cells are a record, and the step's answer and cells are the definition's. Assumes nothing.
+-- `ffi::mlgd_step` meets its contract: the cells are a record, and the step's answer and cells are the definition's. Assumes nothing.
 use mathlib.Core.Path.{sym, subst}
 use mathlib.Core.List.{List}
 use Prim.Native.Nat.{ℕ}
@@ -12,13 +12,13 @@ use Rattle.session_steps.specs.Steps.{stepOf}
 use Rattle.session_asking.specs.Asked.{lent}
 use Rattle.codes.specs.Codes.{Small}
 use Rattle.codes.specs.Records.{recordIn}
-use Rattle.ffi.proofs.Sessions.{step-small, called, on-eight, not-eight}
+use Rattle.ffi.proofs.Sessions.{step-small, called, on-record, no-record}
 use borrow.Author.Needs.{needs}
 use Rattle.ffi.proofs.mlgd_step.Statement.{statement}
 use Rattle.ffi.proofs.mlgd_step.Tie as tie
 
 returns : tie.Need-returns
-returns c = not-eight _ _ (c .before .before .before .before .before .args .cells .now) (c .if1 .taken)
+returns c = no-record _ _ (c .before .before .before .before .before .args .cells .now) (c .if1 .taken)
 
 session-in-requires : tie.Need-session-in-requires
 session-in-requires c κs = search needs
@@ -33,8 +33,11 @@ turn-code-requires c κs =
     let t = c .before .before .before .before .step-copy in
     let H : Matrix = matrix (a .n) (a .m) (a .rho) (a .gamma) (a .list .now) in
     let w : List ℕ = a .word .now in
-    let ls : List ℤ = a .levels .now in
-    (c .before .before .before .before .before .before .before .before .before .if1 .left, subst Small (sym (t .ensures .says)) (step-small H (a .received .now) (lent (recordOf (s .result)) w ls)))
+    let ls : List ℤ = a .levels .now in (
+      c .before .before .before .before .before .before .before .before .before .if1 .left,
+      subst Small (sym (t .ensures .says))
+          (step-small H (a .received .now) (lent (recordOf (s .result)) w ls)),
+    )
 
 same-length : tie.Need-same-length
 same-length c = search needs
@@ -55,10 +58,13 @@ returns-2 c =
     let ls : List ℤ = a .levels .now in
     let h : Held = lent (recordIn (a .cells .now)) w ls in
     let v : Leaves (stepOf H (a .received .now) h) (t .result .answer) (t .result .session) (t .last .1 .1 .1 .1 .0) (t .last .1 .1 .1 .1 .1 .0) =
-    subst (λ (r : Record). Leaves (stepOf H (a .received .now) (lent r w ls)) (t .result .answer) (t .result .session) (t .last .1 .1 .1 .1 .0) (t .last .1 .1 .1 .1 .1 .0)) (s .ensures) (t .ensures) in
+    subst (λ (r : Record). Leaves (stepOf H (a .received .now) (lent r w ls)) (t .result .answer) (t .result .session) (t .last .1 .1 .1 .1 .0)
+    (t .last .1 .1 .1 .1 .1 .0)) (s .ensures) (t .ensures) in
     let r = c .before .before .turn-code in
-    on-eight (stepOf H (a .received .now) h) h (r .result) (a .cells .now) (r .last .1 .0) (t .last .1 .1 .1 .1 .0) (t .last .1 .1 .1 .1 .1 .0) (c .before .before .before .before .before .before .before .before .before .before .before .before .if1 .left)
-    (called (stepOf H (a .received .now) h) (t .result .answer) (t .result .session) (r .result) (a .cells .now) (r .last .1 .0) (t .last .1 .1 .1 .1 .0) (t .last .1 .1 .1 .1 .1 .0) v (r .ensures .0) (r .ensures .1))
+    on-record (stepOf H (a .received .now) h) h (r .result) (a .cells .now) (r .last .1 .0) (t .last .1 .1 .1 .1 .0) (t .last .1 .1 .1 .1 .1 .0)
+    (c .before .before .before .before .before .before .before .before .before .before .before .before .if1 .left)
+    (called (stepOf H (a .received .now) h) (t .result .answer) (t .result .session) (r .result) (a .cells .now) (r .last .1 .0) (t .last .1 .1 .1 .1 .0)
+    (t .last .1 .1 .1 .1 .1 .0) v (r .ensures .0) (r .ensures .1))
 
 pub mlgd-step-spec : {M : Type 1} → statement M
 mlgd-step-spec =

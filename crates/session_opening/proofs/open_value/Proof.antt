@@ -24,7 +24,9 @@ abbrev asked : tie.After-ask-open → tie.Start
 asked c = c .before .before .before .before
 
 -- what was asked is the opening's verdict
-verdict : (c : tie.After-ask-open) → openVerdict (lent-matrix (asked c)) (choiceOf (asked c .args .setting)) (asked c .args .samples .now) (held (asked c)) ≡ verdictOf (c .ask-open .result)
+verdict : (c : tie.After-ask-open)
+    → openVerdict (lent-matrix (asked c)) (choiceOf (asked c .args .setting)) (asked c .args .samples .now) (held (asked c))
+    ≡ verdictOf (c .ask-open .result)
 unfolding openVerdict
 verdict c = sym (c .ask-open .ensures)
 
@@ -61,7 +63,8 @@ returns c =
     let t = r .before .before .before in
     let k = t .before .before in
     let s = asked k in
-    leaves-opened (lent-matrix s) (choiceOf (s .args .setting)) (s .args .samples .now) (held s) _ _ _ _ (verdict k ∙ ap verdictOf (t .enum-told .given .1)) (r .open-accepted .ensures)
+    leaves-opened (lent-matrix s) (choiceOf (s .args .setting)) (s .args .samples .now) (held s) _ _ _ _ (verdict k ∙ ap verdictOf (t .enum-told .given .1))
+    (r .open-accepted .ensures)
 
 returns-2 : tie.Need-returns-2
 returns-2 c =

@@ -4,7 +4,7 @@ use Rattle.packed_word.specs.Steps.{at}
 use Rattle.parity_check.specs.Code.{Matrix, Word}
 use Rattle.parity_check.specs.Shapes.{matrixOf}
 use Rattle.syndrome.proofs.Unpacking.{unpacked-word}
-use Rattle.session_rounds.proofs.Rounding.{next-word, next-restorable, turned}
+use Rattle.session_rounds.proofs.Rounding.{next-word, next-restorable, round-left}
 use Rattle.session_rounds.proofs.round_on.Statement.{statement}
 use Rattle.session_rounds.proofs.round_on.Tie as tie
 
@@ -85,7 +85,7 @@ returns c =
     let p = c .before .before .before .before .before .before .before .before in
     let u = p .before .before .before in
     let s = start u in
-    turned (lent-matrix s) (s .args .middle) (s .args .word .now) (s .args .levels .now) (s .pre) _ _ _ _ _
+    round-left (lent-matrix s) (s .args .middle) (s .args .word .now) (s .args .levels .now) (s .pre) _ _ _ _ _
     (unpacked (kept (tallied u)) .unpack .ensures) (kept (tallied u) .bias .ensures) (tallied u .tally .ensures) _ _ (u .update .ensures) _ _ _
     (p .pack-into .ensures) (c .before .before .before .unbias .ensures) (c .failing-count .ensures)
 

@@ -30,7 +30,9 @@ abbrev turned : tie.After-round-on → tie.After-middle-of
 turned c = c .before .before .before
 
 -- the bytes of the new word
-front : (c : tie.After-round-on) → length (take (bytesFor (lent-matrix (middle-known (turned c)) .n)) (c .round-on .last .1 .1 .1 .0)) ≡ bytesFor (lent-matrix (middle-known (turned c)) .n)
+front : (c : tie.After-round-on)
+    → length (take (bytesFor (lent-matrix (middle-known (turned c)) .n)) (c .round-on .last .1 .1 .1 .0))
+    ≡ bytesFor (lent-matrix (middle-known (turned c)) .n)
 front c =
     let s = middle-known (turned c) in
     front-long (lent-matrix s) (received s) (held s) (s .pre) _ _ _ _ (turned c .middle-of .ensures) (c .round-on .ensures)

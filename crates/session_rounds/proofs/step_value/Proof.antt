@@ -57,7 +57,8 @@ returns c =
     let t = r .before .before .before in
     let k = t .before .before in
     let s = asked k in
-    leaves-stepped (lent-matrix s) (received s) (held s) _ _ _ _ (sym (k .ask-step .ensures) ∙ ap verdictOf (t .enum-told .given .1)) (r .step-accepted .ensures)
+    leaves-stepped (lent-matrix s) (received s) (held s) _ _ _ _ (sym (k .ask-step .ensures) ∙ ap verdictOf (t .enum-told .given .1))
+    (r .step-accepted .ensures)
 
 same-length-3 : tie.Need-same-length-3
 same-length-3 c = search needs
