@@ -1,8 +1,11 @@
 // What the calls answer: refusals, outcomes and reports by value.
 // specs/Answers.antt gives document 01's numbers for each case, and every contract speaks through it.
+// The functions by which every call asks its refusals stand here too: a refusal where a test passes, one question after another,
+// and refusal 7's lengths.
 // Rests on nothing. Document 01: "Refused for the input", "Refused for the session", and what an answer holds ("Iterative voting").
 ghost use mathlib.Core.Path.{_≡_};
-ghost use Rattle.answers.specs.Answers.{numberOf, placeOf, outcomeOf};
+ghost use Rattle.answers.specs.Paper.{accepted, refuseIf, andThen, wrongLengths, report, outcomeBy};
+ghost use Rattle.answers.specs.Answers.{numberOf, placeOf, outcomeOf, verdictOf, reportOf};
 
 // Why a call is refused. A refusal that has a place carries it.
 pub enum Refusal {
@@ -104,5 +107,66 @@ pub fn outcome_number(o: Outcome) -> u16
         Outcome::Decoded => 0,
         Outcome::Failed => 1,
         Outcome::Working => 2,
+    }
+}
+
+// A refusal where the test passes.
+pub fn refused_when(test: bool, f: Refusal) -> Checked
+    ensures { λ r. ⌜ verdictOf r ≡ refuseIf test (numberOf f) (placeOf f) accepted ⌝ }
+{
+    if test {
+        return Checked::Refused(f);
+    }
+    Checked::Accepted
+}
+
+// What is asked first, then what is asked next.
+pub fn and_then(first: Checked, next: Checked) -> Checked
+    ensures { λ r. ⌜ verdictOf r ≡ andThen (verdictOf first) (verdictOf next) ⌝ }
+{
+    match first {
+        Checked::Accepted => next,
+        Checked::Refused(f) => Checked::Refused(f),
+    }
+}
+
+// Refusal 7: what is lent has not the length wanted, or one of two written buffers is shorter than needed.
+// A buffer that the call does not write has the length 0 of 0 needed.
+pub fn wrong_lengths(
+    lent: usize,
+    wanted: usize,
+    bytes: usize,
+    need: usize,
+    room: usize,
+    cells: usize,
+) -> bool
+    ensures { λ r. ⌜ r ≡ wrongLengths lent wanted bytes need room cells ⌝ }
+{
+    if lent != wanted {
+        return true;
+    }
+    if bytes < need {
+        return true;
+    }
+    room < cells
+}
+
+// A report: decoded where no check fails, else failed.
+pub fn ended(rounds: u16, failing: u16, changed: u16) -> Report
+    ensures { λ r. ⌜ reportOf r ≡ report (outcomeBy failing) rounds failing changed ⌝ }
+{
+    if failing == 0 {
+        return Report {
+            outcome: Outcome::Decoded,
+            rounds,
+            failing,
+            changed,
+        };
+    }
+    Report {
+        outcome: Outcome::Failed,
+        rounds,
+        failing,
+        changed,
     }
 }

@@ -2,11 +2,10 @@
 use mathlib.Core.Path.{_≡_, refl, sym, ap, _∙_}
 use mathlib.Core.Bool.{Bool, true, false, _&&_}
 use Prim.Native.Nat.{ℕ, _<_}
-use lib.Dec.{leb}
 use lib.Ieee.{Float, binary32, ofBits, ofFields, odd, le}
 use borrow.Author.Tests.{lt-leb}
 use Rattle.counting.proofs.Searches.{never}
-use Rattle.quantiser.specs.Samples.{mostBits, stepFits, settingFits}
+use Rattle.quantiser.specs.Samples.{rangesFit, stepFits, settingFits}
 use Rattle.codes.specs.Settings.{choice, StandsFor}
 
 -- a test that fails makes a conjunction fail
@@ -18,12 +17,12 @@ and-none false = refl
 pub other-kind : (bits limit kind : ℕ) (step : Float) → 1 < kind → settingFits (choice bits limit kind step) ≡ false
 unfolding settingFits
 other-kind bits limit kind step h =
-    rw (lt-leb kind 1 h, and-none (leb limit 255), and-none (leb bits mostBits), and-none (leb 2 bits))
+    rw (lt-leb kind 1 h, and-none (rangesFit bits limit))
 
 -- and the step 0 that stands for it
 pub zero-step : (bits limit : ℕ) → settingFits (choice bits limit 0 (ofBits binary32 0)) ≡ false
 unfolding settingFits stepFits le ofBits ofFields odd
-zero-step bits limit = rw (and-none (leb limit 255), and-none (leb bits mostBits), and-none (leb 2 bits))
+zero-step bits limit = rw (and-none (rangesFit bits limit))
 
 -- the program's setting for each kind
 pub stands-level : (bits limit kind : ℕ) (step : Float) → kind ≡ 0 → StandsFor (choice bits limit kind step) (choice bits limit 0 step)

@@ -2,33 +2,43 @@
 // Rests on `syndrome`, `parity_check` and `packed_word`. Document 01: "The code and the block"; refusals 1 to 5, 7 and 9.
 use answers::Checked;
 use answers::Counted;
-use answers::Refusal;
-use packed_word::spare_set;
 use packed_word::unpack;
 use parity_check::Shape;
 use parity_check::check;
+use syndrome::ask_word;
 use syndrome::failing_count;
 ghost use mathlib.Core.Path.{_≡_};
+ghost use lib.ListN.{length};
 ghost use Rattle.answers.specs.Answers.{countedOf};
+ghost use Rattle.packed_word.specs.Packed.{bitAt, bytesFor};
+ghost use Rattle.parity_check.specs.Code.{failing};
 ghost use Rattle.parity_check.specs.Reading.{Accepted};
 ghost use Rattle.parity_check.specs.Shapes.{matrixOf};
 ghost use Rattle.syndrome.specs.Failing.{failingOf};
 
-// The count on a matrix that the check accepts: the received word's length, its spare places, then its failing checks.
+// The failing checks of a received word that has its bytes.
+fn count(shape: Shape, list: &[u16], received: &[u8]) -> u16
+    requires { ⌜ Accepted (matrixOf shape (now list)) × (length (now received) ≡ bytesFor (shape .n)) ⌝ }
+    ensures { λ r. ⌜ r ≡ failing (matrixOf shape (now (list .entry))) (bitAt (now (received .entry))) ⌝ }
+{
+    let n = shape.n as usize;
+    let mut bits = [0u8; 1023];
+    unpack(received, n, &mut bits);
+    failing_count(shape, list, &bits)
+}
+
+// What is asked of the received word once the matrix is accepted, then its failing checks. Nothing is written.
 fn failing_accepted(shape: Shape, list: &[u16], received: &[u8]) -> Counted
     requires { ⌜ Accepted (matrixOf shape (now list)) ⌝ }
     ensures { λ r. ⌜ countedOf r ≡ failingOf (matrixOf shape (now (list .entry))) (now (received .entry)) ⌝ }
 {
     let n = shape.n as usize;
-    if received.len() != (n + 7) / 8 {
-        return Counted::Refused(Refusal::Buffer);
+    let need = (n + 7) / 8;
+    let asked = ask_word(n, received, need, n);
+    match asked {
+        Checked::Accepted => Counted::Failing(count(shape, list, received)),
+        Checked::Refused(f) => Counted::Refused(f),
     }
-    if spare_set(received, n) {
-        return Counted::Refused(Refusal::Spare);
-    }
-    let mut bits = [0u8; 1023];
-    unpack(received, n, &mut bits);
-    Counted::Failing(failing_count(shape, list, &bits))
 }
 
 // How many checks of a received word fail. No input needs to be looked at before.

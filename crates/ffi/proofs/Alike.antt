@@ -12,7 +12,7 @@ use Rattle.parity_check.specs.Code.{Matrix}
 use Rattle.parity_check.specs.Check.{checkOf}
 use Rattle.quantiser.specs.Samples.{Choice, settingFits, quantiseVerdict}
 use Rattle.quantiser.specs.Filling.{Quantised}
-use Rattle.iterative.specs.Iterative.{iterativeVerdict, iterativeOf, iterativeWord, iterativeLevels}
+use Rattle.iterative.specs.Iterative.{samplesVerdict, iterativeVerdict, iterativeOf, iterativeWord, iterativeLevels}
 use Rattle.iterative.specs.Calls.{Answered}
 use Rattle.codes.specs.Settings.{StandsFor}
 
@@ -34,7 +34,7 @@ module _ (v : Verdict) where
 
 pub unfit-verdict : (H : Matrix) (S : Choice) (xs : List Float) (b l : ℕ) → settingFits S ≡ false
     → iterativeVerdict H S xs b l ≡ andThen (checkOf H) (refused 6 0)
-unfolding iterativeVerdict
+unfolding iterativeVerdict samplesVerdict
 unfit-verdict H S xs b l e = rw e
 
 unfit-quantise : (S : Choice) (xs : List Float) (l b : ℕ) → settingFits S ≡ false → quantiseVerdict S xs l b ≡ refused 6 0

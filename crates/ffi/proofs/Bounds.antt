@@ -19,7 +19,7 @@ use Rattle.syndrome.specs.Failing.{failingVerdict, failingOf}
 use Rattle.majority_logic.specs.OneStep.{stepWord, stepRounds, oneStepReport, oneStepVerdict, oneStepOf}
 use Rattle.quantiser.specs.Samples.{Choice, settingFits, largest, hardBit}
 use Rattle.quantiser.proofs.Ranges.{fits-reads}
-use Rattle.iterative.specs.Iterative.{startOf, endFrom, reportAt, iterativeVerdict, iterativeOf}
+use Rattle.iterative.specs.Iterative.{startOf, endFrom, reportAt, samplesVerdict, iterativeVerdict, iterativeOf}
 use Rattle.iterative.proofs.Ends.{rounds-within}
 use Rattle.iterative_core.proofs.Changes.{changed-le}
 use Rattle.codes.specs.Codes.{Small}
@@ -62,7 +62,7 @@ one-step-small H w room = after-small (checkOf H) _ _ (λ e. report-small H (acc
 
 -- iterative voting: its rounds are within the round limit
 pub iterative-small : (H : Matrix) (S : Choice) (xs : List Float) (b l : ℕ) → Small (iterativeOf H S xs b l)
-unfolding iterativeOf iterativeVerdict reportAt endFrom
+unfolding iterativeOf iterativeVerdict samplesVerdict reportAt endFrom
 iterative-small H S xs b l =
     cases (settingFits S) (λ y. after-small (checkOf H) _ _ (fit y)) (λ n. rw n (six (checkOf H) _))
   where

@@ -1,17 +1,12 @@
-// The flips that votes decide, and the report that ends a decoding.
-// Rests on the definitions of `majority_logic` and on `answers`. Document 01: "One-step voting".
-use answers::Outcome;
-use answers::Report;
+// The flips that votes decide.
+// Rests on the definitions of `majority_logic`. Document 01: "One-step voting".
 use parity_check::Shape;
 ghost use mathlib.Core.Path.{_≡_};
 ghost use Prim.Native.Nat.{ℕ, _*_, _<_, _≤_};
 ghost use lib.Dec.{ltb};
 ghost use lib.ListN.{length};
-ghost use Rattle.answers.specs.Paper.{report};
-ghost use Rattle.answers.specs.Answers.{reportOf};
 ghost use Rattle.packed_word.specs.Steps.{at};
 ghost use Rattle.majority_logic.specs.Voting.{flipWhen};
-ghost use Rattle.majority_logic.specs.OneStep.{outcomeBy};
 ghost use Rattle.flips.specs.Flips.{Voted};
 
 // The bit b after the vote: turned over where more than half of its gamma checks fail, so that a tie keeps it.
@@ -45,24 +40,4 @@ pub fn flip_all(shape: Shape, votes: &[u8; 1023], bits: &mut [u8; 1023])
     let n = shape.n as usize;
     let gamma = shape.gamma;
     flip_front(votes, n, gamma, bits);
-}
-
-// A report: decoded where no check fails, else failed.
-pub fn ended(rounds: u16, failing: u16, changed: u16) -> Report
-    ensures { λ r. ⌜ reportOf r ≡ report (outcomeBy failing) rounds failing changed ⌝ }
-{
-    if failing == 0 {
-        return Report {
-            outcome: Outcome::Decoded,
-            rounds,
-            failing,
-            changed,
-        };
-    }
-    Report {
-        outcome: Outcome::Failed,
-        rounds,
-        failing,
-        changed,
-    }
 }

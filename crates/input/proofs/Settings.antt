@@ -8,7 +8,7 @@ use lib.Ieee.{Float}
 use lib.Ieee.Scale.{finite}
 use lib.ListN.{getD}
 use borrow.Author.Tests.{lt-leb}
-use Rattle.quantiser.specs.Samples.{Choice, mostBits, stepFits, settingFits}
+use Rattle.quantiser.specs.Samples.{Choice, rangesFit, stepFits, settingFits}
 use Rattle.input.specs.Input.{float, choiceIn}
 use Rattle.input.specs.Opening.{refusedBy, openWith, opening, settingVerdict}
 use Rattle.input.proofs.Patterns.{step-unfit}
@@ -29,7 +29,7 @@ and-off false e = refl
 module _ (S : Choice) where
   last-unfit : (leb (S .kind) 1 && stepFits (S .step)) ≡ false → settingFits S ≡ false
   unfolding settingFits
-  last-unfit e = and-off (leb 2 (S .bits)) (and-off (leb (S .bits) mostBits) (and-off (leb (S .limit) 255) e))
+  last-unfit e = and-off (rangesFit (S .bits) (S .limit)) e
 
   -- a third kind of step
   pub kind-unfit : 1 < S .kind → settingFits S ≡ false

@@ -1,10 +1,12 @@
--- The whole call's answer, by the tests that lead to it. Assumes nothing.
+-- The whole call's answer, by what is asked before it.
+--   refused-matrix     == the matrix is refused: the check's number and place
+--   refused-samples    == what is asked of setting and samples refuses them
+--   answered-decoded   == nothing is refused: what the core leaves
+--   answered-rule      == what is answered obeys the flipping rule for iterative voting, and a limit of L / 2 + 1 is ample
+-- Assumes nothing.
 use mathlib.Core.Path.{_≡_, refl, _∙_}
-use mathlib.Core.Bool.{true, false}
 use mathlib.Core.List.{List}
-use Prim.Native.Nat.{ℕ, _<_}
-use native.Mathlib.Omega.{arith}
-use borrow.Author.Tests.{lt-ltb, le-ltb}
+use Prim.Native.Nat.{ℕ}
 use lib.IntN.{ℤ}
 use lib.Ieee.{Float}
 use lib.ListN.{length}
@@ -13,10 +15,9 @@ use Rattle.parity_check.specs.Code.{Matrix}
 use Rattle.parity_check.specs.Check.{checkOf}
 use Rattle.parity_check.specs.Reading.{Accepted}
 use Rattle.parity_check.proofs.Reading.{is-accepted}
-use Rattle.quantiser.specs.Samples.{Choice, settingFits, firstNotFinite}
-use Rattle.iterative_core.specs.Iterative.{iterativeVerdict, iterativeOf}
-use Rattle.iterative_core.specs.Calls.{wrongLoan, Lent, Decoded, Answered}
-use Rattle.iterative_core.proofs.Loans.{loan-room}
+use Rattle.quantiser.specs.Samples.{Choice}
+use Rattle.iterative_core.specs.Iterative.{samplesVerdict, iterativeVerdict, iterativeOf}
+use Rattle.iterative_core.specs.Calls.{Decoded, Answered}
 use Rattle.iterative_rule.specs.Claims.{IterativeRule, AmpleLimit}
 use Rattle.iterative_rule.proofs.FlippingRule.{iterative-rule, ample-limit}
 
@@ -26,37 +27,26 @@ module _ (H : Matrix) (S : Choice) (xs : List Float) (w : List ℕ) (ls : List �
   unfolding iterativeOf
   kept k x said v e = record { answer = e ∙ rw v refl; word = rw v refl; levels = rw v refl }
 
-  -- a matrix that is refused is refused with the check's number and place
   pub refused-matrix : (k x : ℕ) (said : Said) → checkOf H ≡ refused k x → said ≡ refusal k x → Answered H S xs said w w ls ls
   unfolding iterativeVerdict
   refused-matrix k x said c e = kept k x said (rw c refl) e
 
   module _ (a : Accepted H) where
-    pub refused-setting : (said : Said) → settingFits S ≡ false → said ≡ refusal 6 0 → Answered H S xs said w w ls ls
+    -- what is asked once the matrix is accepted
+    asked : iterativeVerdict H S xs (length w) (length ls) ≡ samplesVerdict (H .n) S xs (length w) (length ls)
     unfolding iterativeVerdict
-    refused-setting said f e = kept 6 0 said (rw (is-accepted H a, f) refl) e
+    asked = rw (is-accepted H a)
 
-    module _ (fits : settingFits S ≡ true) where
-      pub refused-loan : (said : Said) → wrongLoan (H .n) (length xs) (length w) (length ls) ≡ true → said ≡ refusal 7 0 → Answered H S xs said w w ls ls
-      unfolding iterativeVerdict
-      refused-loan said t e = kept 7 0 said (rw (is-accepted H a, fits, t) refl) e
+    pub refused-samples : (k x : ℕ) (said : Said) → samplesVerdict (H .n) S xs (length w) (length ls) ≡ refused k x → said ≡ refusal k x
+        → Answered H S xs said w w ls ls
+    refused-samples k x said v e = kept k x said (asked ∙ v) e
 
-      module _ (room : wrongLoan (H .n) (length xs) (length w) (length ls) ≡ false) where
-        pub refused-sample : (said : Said) → firstNotFinite xs < length xs → said ≡ refusal 8 (firstNotFinite xs) → Answered H S xs said w w ls ls
-        unfolding iterativeVerdict
-        refused-sample said h e = kept 8 (firstNotFinite xs) said (rw (is-accepted H a, fits, room, lt-ltb (firstNotFinite xs) (length xs) h) refl) e
-
-        pub loan-lent : firstNotFinite xs ≡ length xs → Lent H S xs w ls
-        loan-lent q =
-            let r = loan-room (H .n) (length xs) (length w) (length ls) room in
-            record { matrix = a; setting = fits; samples = r .0; finite = q; room-word = r .1; room-levels = r .2 }
-
-        pub answered-decoded : (said : Said) (w′ : List ℕ) (ls′ : List ℤ) → firstNotFinite xs ≡ length xs → Decoded H S xs said w w′ ls ls′
-            → Answered H S xs said w w′ ls ls′
-        unfolding iterativeOf iterativeVerdict
-        answered-decoded said w′ ls′ q d =
-            let v : iterativeVerdict H S xs (length w) (length ls) ≡ accepted = rw (is-accepted H a, fits, room, le-ltb (firstNotFinite xs) (length xs) (omega arith)) refl in
-            record { answer = d .answer ∙ rw v refl; word = d .word ∙ rw v refl; levels = d .levels ∙ rw v refl }
+    pub answered-decoded : (said : Said) (w′ : List ℕ) (ls′ : List ℤ) → samplesVerdict (H .n) S xs (length w) (length ls) ≡ accepted
+        → Decoded H S xs said w w′ ls ls′ → Answered H S xs said w w′ ls ls′
+    unfolding iterativeOf
+    answered-decoded said w′ ls′ q d =
+        let v = asked ∙ q in
+        record { answer = d .answer ∙ rw v refl; word = d .word ∙ rw v refl; levels = d .levels ∙ rw v refl }
 
 -- what is answered obeys the flipping rule for iterative voting, and a limit of L / 2 + 1 is ample
 pub answered-rule : {H : Matrix} {S : Choice} {xs : List Float} {said : Said} {w w′ : List ℕ} {ls ls′ : List ℤ} → Answered H S xs said w w′ ls ls′

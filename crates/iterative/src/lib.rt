@@ -2,19 +2,15 @@
 // Rests on `iterative_core`, `iterative_rule`, `column_index`, `quantiser` and `parity_check`. Document 01: "Iterative voting"; refusals 1 to 8.
 use answers::Answer;
 use answers::Checked;
-use answers::Refusal;
 use answers::Report;
 pub use iterative_core::iterative_accepted;
-pub use iterative_core::middle_of;
 use parity_check::Shape;
 use quantiser::Setting;
-ghost use mathlib.Core.Path.{_≡_};
-ghost use Prim.Native.Nat.{_≤_};
 ghost use Rattle.answers.specs.Answers.{reportOf, saidOf};
 ghost use Rattle.parity_check.specs.Reading.{Accepted};
 ghost use Rattle.parity_check.specs.Shapes.{matrixOf};
 ghost use Rattle.quantiser.specs.Settings.{choiceOf};
-ghost use Rattle.iterative_core.specs.Calls.{wrongLoan, Lent, Decoded, Answered};
+ghost use Rattle.iterative_core.specs.Calls.{Lent, Decoded, Answered};
 ghost use Rattle.iterative_rule.specs.Claims.{IterativeRule, AmpleLimit};
 
 // The core with an index made for this call.
@@ -34,20 +30,6 @@ fn with_index(
     iterative_accepted(shape, list, &index, setting, samples, word, levels)
 }
 
-// Whether the samples are not exactly n, or the word's or the levels' buffer is too short.
-fn wrong_loan(n: usize, samples: usize, bytes: usize, levels: usize) -> bool
-    requires { ⌜ n ≤ 1023 ⌝ }
-    ensures { λ r. ⌜ r ≡ wrongLoan n samples bytes levels ⌝ }
-{
-    if samples != n {
-        return true;
-    }
-    if bytes < (n + 7) / 8 {
-        return true;
-    }
-    levels < n
-}
-
 // The refusals after the matrix check, then the decoding.
 fn on_accepted(
     shape: Shape,
@@ -61,17 +43,11 @@ fn on_accepted(
     ensures { λ r. ⌜ Answered (matrixOf shape (now (list .entry))) (choiceOf setting) (now (samples .entry)) (saidOf r) (now (word .entry)) (now (word .exit)) (now (levels .entry)) (now (levels .exit)) ⌝ }
 {
     let n = shape.n as usize;
-    if !quantiser::setting_fits(setting) {
-        return Answer::Refused(Refusal::Setting);
+    let asked = iterative_core::ask_samples(n, setting, samples, word.len(), levels.len());
+    match asked {
+        Checked::Accepted => Answer::Done(with_index(shape, list, setting, samples, word, levels)),
+        Checked::Refused(f) => Answer::Refused(f),
     }
-    if wrong_loan(n, samples.len(), word.len(), levels.len()) {
-        return Answer::Refused(Refusal::Buffer);
-    }
-    let found = quantiser::first_not_finite(samples);
-    if found < n {
-        return Answer::Refused(Refusal::Sample(found as u16));
-    }
-    Answer::Done(with_index(shape, list, setting, samples, word, levels))
 }
 
 // Iterative voting on samples. The word and the levels are written in either outcome; a refused call writes nothing.

@@ -9,7 +9,7 @@ use lib.Ieee.{Float, nan}
 use lib.ListN.{length, getD, take}
 use Rattle.counting.specs.Lists.{listed, over}
 use Rattle.counting.proofs.Writing.{length-listed, getD-listed, listed-cong, length-over, getD-over-new, take-over, over-over}
-use Rattle.answers.specs.Paper.{Said, report}
+use Rattle.answers.specs.Paper.{Said, report, outcomeBy}
 use Rattle.packed_word.specs.Packed.{bitAt, bytesFor, pack, distance}
 use Rattle.packed_word.specs.Steps.{at}
 use Rattle.packed_word.proofs.Packing.{length-pack, bitAt-pack, spare-pack, pack-cong}
@@ -18,7 +18,6 @@ use Rattle.parity_check.specs.Code.{Matrix}
 use Rattle.quantiser.specs.Samples.{Choice, settingFits, largest, levelOf, levelsOf, hardBit}
 use Rattle.quantiser.specs.Filling.{Filled}
 use Rattle.quantiser.proofs.Ranges.{fits-reads, largest-most, level-bound, hard-bit-at}
-use Rattle.majority_logic.specs.OneStep.{outcomeBy}
 use Rattle.soft_levels.specs.Levels.{biased, unbiased, Bounded, Biased, Restorable}
 use Rattle.soft_levels.proofs.Levels.{biased-le}
 use Rattle.soft_rounds.specs.Rounds.{endOf}

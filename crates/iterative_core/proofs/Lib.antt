@@ -1,3 +1,4 @@
 pub mod Changes
 pub mod Finishing
+pub mod Asking
 pub mod Loans

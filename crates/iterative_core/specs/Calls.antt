@@ -1,15 +1,13 @@
 -- What the calls of iterative voting ask and leave.
---   wrongLoan n s b l          == refusal 7: samples not exactly n, or bytes or levels fewer than needed
 --   Lent H S xs w ls           == matrix, setting and samples are accepted, and there is room for the word and the levels
 --   Started S xs ls ls′ z x    == step 1: the levels are written, and the arrays hold the hard bits and the levels
 --   Decoded H S xs ..          == answer, word and levels of the accepted call
 --   Answered H S xs ..         == answer, word and levels of the whole call; a refused one writes nothing
 -- Assumes nothing.
 use mathlib.Core.Path.{_≡_}
-use mathlib.Core.Bool.{Bool, true, not, _||_}
+use mathlib.Core.Bool.{true}
 use mathlib.Core.List.{List}
 use Prim.Native.Nat.{ℕ, _≤_}
-use lib.Dec.{eqb, ltb}
 use lib.IntN.{ℤ}
 use lib.Ieee.{Float}
 use lib.ListN.{length}
@@ -21,10 +19,6 @@ use Rattle.parity_check.specs.Reading.{Accepted}
 use Rattle.quantiser.specs.Samples.{Choice, settingFits, largest, levelsOf, hardBit, firstNotFinite}
 use Rattle.iterative_core.specs.Iterative.{startOf, endFrom, reportAt, iterativeVerdict, iterativeOf, iterativeWord, iterativeLevels}
 use Rattle.soft_rounds.specs.Runs.{Holds}
-
--- "samples not exactly n .. or a written buffer shorter than needed"
-abbrev pub wrongLoan : ℕ → ℕ → ℕ → ℕ → Bool
-wrongLoan n samples bytes levels = not (eqb samples n) || (ltb bytes (bytesFor n) || ltb levels n)
 
 pub record Lent (H : Matrix) (S : Choice) (xs : List Float) (w : List ℕ) (ls : List ℤ) : Type 0 where
   pub matrix : Accepted H

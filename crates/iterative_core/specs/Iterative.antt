@@ -4,25 +4,24 @@
 --   changedBits H z r        == "changed": positions at which the word handed back differs from the received word
 --   endFrom H S xs           == the k and the state with which the list ends
 --   reportAt H r e           == the answer at the end e, r being the received word
+--   samplesVerdict n S xs ..   == what is asked of the setting, the samples and the written buffers, once the matrix is accepted: 6, 7, 8
 --   iterativeVerdict         == what is asked before
 --   iterativeOf              == what iterative voting says
 --   iterativeWord, iterativeLevels   == what it writes
 -- Assumes nothing.
 use Prim.Native.Nat.{ℕ, _*_}
-use mathlib.Core.Bool.{not, _||_}
+use mathlib.Core.Bool.{not}
 use mathlib.Core.List.{List}
-use lib.Dec.{eqb, ltb}
 use lib.IntN.{ℤ}
 use lib.Ieee.{Float, nan}
 use lib.ListN.{length, getD}
 use Rattle.counting.specs.Sum.{sum, differ}
 use Rattle.counting.specs.Lists.{listed}
-use Rattle.answers.specs.Paper.{Verdict, accepted, refuseWhen, refuseAt, andThen, Said, report, after}
+use Rattle.answers.specs.Paper.{Verdict, accepted, refuseWhen, refuseAt, andThen, wrongLengths, Said, report, outcomeBy, after}
 use Rattle.packed_word.specs.Packed.{bytesFor, pack}
 use Rattle.parity_check.specs.Code.{Matrix, failing}
 use Rattle.parity_check.specs.Check.{checkOf}
 use Rattle.quantiser.specs.Samples.{Choice, settingFits, largest, levelOf, hardBit, firstNotFinite}
-use Rattle.majority_logic.specs.OneStep.{outcomeBy}
 use Rattle.soft_rounds.specs.Rounds.{State, state, End, endOf}
 
 -- "k = 0; z is the hard bits; R is the levels"
@@ -45,13 +44,15 @@ endFrom H S xs = endOf H (largest (S .bits)) 0 (S .limit) (startOf S xs)
 unfoldable pub reportAt : Matrix → (ℕ → ℕ) → End → Said
 reportAt H r e = report (outcomeBy (failing H (e .last .z))) (e .k) (failing H (e .last .z)) (changedBits H (e .last .z) r)
 
--- refusals 1 to 8: the written buffers have room for `bytes` bytes and `levels` levels
+-- refusals 6, 7 and 8: the written buffers have room for `bytes` bytes and `levels` levels
+unfoldable pub samplesVerdict : ℕ → Choice → List Float → ℕ → ℕ → Verdict
+samplesVerdict n S xs bytes levels =
+    refuseWhen 6 (not (settingFits S))
+    (refuseWhen 7 (wrongLengths (length xs) n bytes (bytesFor n) levels n) (refuseAt 8 (firstNotFinite xs) (length xs) accepted))
+
+-- refusals 1 to 8
 unfoldable pub iterativeVerdict : Matrix → Choice → List Float → ℕ → ℕ → Verdict
-iterativeVerdict H S xs bytes levels =
-    andThen (checkOf H)
-    (refuseWhen 6 (not (settingFits S))
-    (refuseWhen 7 (not (eqb (length xs) (H .n)) || (ltb bytes (bytesFor (H .n)) || ltb levels (H .n)))
-    (refuseAt 8 (firstNotFinite xs) (length xs) accepted)))
+iterativeVerdict H S xs bytes levels = andThen (checkOf H) (samplesVerdict (H .n) S xs bytes levels)
 
 -- the answer
 unfoldable pub iterativeOf : Matrix → Choice → List Float → ℕ → ℕ → Said

@@ -1,27 +1,56 @@
-// Iterative voting on a matrix, a setting and samples that are known to be accepted.
-// Rests on `soft_rounds`, `flips`, `quantiser` and `packed_word`. Document 01: "Iterative voting".
+// Iterative voting on a matrix, a setting and samples that are known to be accepted, and what is asked of setting and samples before.
+// Rests on `soft_rounds`, `quantiser` and `packed_word`. Document 01: "Iterative voting"; refusals 6 to 8.
+use answers::Checked;
+use answers::Refusal;
 use answers::Report;
 use parity_check::Shape;
 use quantiser::Setting;
 ghost use mathlib.Core.Path.{_≡_};
 ghost use Prim.Native.Nat.{_*_, _≤_};
 ghost use lib.ListN.{length, take};
-ghost use Rattle.answers.specs.Answers.{reportOf};
+ghost use Rattle.answers.specs.Answers.{verdictOf, reportOf};
 ghost use Rattle.packed_word.specs.Packed.{bitAt, bytesFor, distance};
 ghost use Rattle.parity_check.specs.Shapes.{matrixOf};
 ghost use Rattle.quantiser.specs.Samples.{mostBits, largest};
 ghost use Rattle.quantiser.specs.Settings.{choiceOf};
 ghost use Rattle.quantiser.specs.Filling.{Fillable};
 ghost use Rattle.column_index.specs.Index.{Indexed};
+ghost use Rattle.iterative_core.specs.Iterative.{samplesVerdict};
 ghost use Rattle.iterative_core.specs.Calls.{Lent, Started, Decoded};
 
-// L, the largest level of so many bits. Only this repository's crates call it, with a width in range.
+// L, the largest level of so many bits, by a name of the rounds. Only this repository's crates call it, with a width in range.
 pub fn middle_of(bits: u16) -> u8
     requires { ⌜ (2 ≤ bits) × (bits ≤ mostBits) ⌝ }
     ensures { λ r. ⌜ r ≡ largest bits ⌝ }
 {
-    let top = (1u16 << (bits - 1)) - 1;
-    top as u8
+    sample_levels::largest_of(bits)
+}
+
+// What is asked of the setting, the samples and the written buffers: 6, 7, 8.
+// Only this repository's crates call it, after the matrix is accepted.
+pub fn ask_samples(
+    n: usize,
+    setting: Setting,
+    samples: &[f32],
+    bytes: usize,
+    room: usize,
+) -> Checked
+    requires { ⌜ n ≤ 1023 ⌝ }
+    ensures { λ r. ⌜ verdictOf r ≡ samplesVerdict n (choiceOf setting) (now (samples .entry)) bytes room ⌝ }
+{
+    let need = (n + 7) / 8;
+    if !quantiser::setting_fits(setting) {
+        return Checked::Refused(Refusal::Setting);
+    }
+    if answers::wrong_lengths(samples.len(), n, bytes, need, room, n) {
+        return Checked::Refused(Refusal::Buffer);
+    }
+    let found = quantiser::first_not_finite(samples);
+    if found < samples.len() {
+        let place = found as u16;
+        return Checked::Refused(Refusal::Sample(place));
+    }
+    Checked::Accepted
 }
 
 // At how many places the word differs from the packed hard bits. Both have the bytes of n bits at the front.
@@ -76,5 +105,5 @@ pub fn iterative_accepted(
     packed_word::pack_into(&bits, n, word);
     soft_levels::unbias(&kept, n, middle, levels);
     let changed = changed_bits(word, &hard, n);
-    flips::ended(stop.rounds, stop.failing, changed)
+    answers::ended(stop.rounds, stop.failing, changed)
 }

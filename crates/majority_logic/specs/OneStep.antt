@@ -1,5 +1,4 @@
 -- One-step voting on a received word. (Document 01, "One-step voting"; refusals 1 to 5, 7 and 9.)
---   outcomeBy f               == decoded where no check fails, else failed
 --   stepWord, stepRounds      == the word after the vote, and the rounds
 --   oneStepReport H z         == outcome, rounds, failing and changed
 --   oneStepVerdict H w room   == what is asked before the vote
@@ -7,19 +6,15 @@
 --   oneStepWord H w           == the bytes that it writes
 -- Assumes nothing.
 use Prim.Native.Nat.{ℕ}
-use mathlib.Core.Bool.{cond, _||_}
+use mathlib.Core.Bool.{cond}
 use mathlib.Core.List.{List}
-use lib.Dec.{eqb, ltb}
-use Rattle.answers.specs.Paper.{Verdict, accepted, refuseWhen, andThen, Said, report, after}
-use Rattle.packed_word.specs.Packed.{bitAt, bytesFor, pack, spareSet, distance}
+use lib.Dec.{eqb}
+use Rattle.answers.specs.Paper.{Verdict, andThen, Said, report, outcomeBy, after}
+use Rattle.packed_word.specs.Packed.{bitAt, pack, distance}
 use Rattle.parity_check.specs.Code.{Matrix, failing}
 use Rattle.parity_check.specs.Check.{checkOf}
-use Rattle.syndrome.specs.Failing.{wrongLength}
+use Rattle.syndrome.specs.Failing.{wordVerdict}
 use Rattle.majority_logic.specs.Voting.{flipped}
-
--- 0 decoded, 1 failed
-abbrev pub outcomeBy : ℕ → ℕ
-outcomeBy f = cond (eqb f 0) 0 1
 
 -- "If no check of the received word fails, the word is decoded as it is .. Else each bit .. is flipped"
 unfoldable pub stepWord : Matrix → (ℕ → ℕ) → ℕ → ℕ
@@ -34,11 +29,9 @@ unfoldable pub oneStepReport : Matrix → (ℕ → ℕ) → Said
 oneStepReport H z =
     report (outcomeBy (failing H (stepWord H z))) (stepRounds H z) (failing H (stepWord H z)) (distance (H .n) (stepWord H z) z)
 
--- refusals 1 to 5, 7 (the received word w, or a written buffer of fewer cells than needed) and 9
+-- refusals 1 to 5, 7 and 9: a word is written to a buffer of `room` bytes, and no levels
 unfoldable pub oneStepVerdict : Matrix → List ℕ → ℕ → Verdict
-oneStepVerdict H w room =
-    andThen (checkOf H)
-    (refuseWhen 7 (wrongLength (H .n) w || ltb room (bytesFor (H .n))) (refuseWhen 9 (spareSet (H .n) w) accepted))
+oneStepVerdict H w room = andThen (checkOf H) (wordVerdict (H .n) w room (H .n))
 
 -- the answer
 unfoldable pub oneStepOf : Matrix → List ℕ → ℕ → Said

@@ -3,7 +3,7 @@ use mathlib.Core.Path.{_≡_, sym, ap, _∙_}
 use mathlib.Core.List.{List}
 use Prim.Native.Nat.{ℕ, _*_, _/_, _≤_, _<_}
 use native.Mathlib.Omega.{arith}
-use borrow.Author.Tests.{lt-ltb, le-ltb, eq-eqb}
+use borrow.Author.Tests.{lt-ltb, le-ltb}
 use lib.IntN.{ℤ}
 use lib.Ieee.{Float}
 use lib.ListN.{length, take}
@@ -11,11 +11,12 @@ use Rattle.counting.specs.Lists.{listed, over}
 use Rattle.counting.proofs.Searches.{first-le}
 use Rattle.counting.proofs.Writing.{take-over}
 use Rattle.answers.specs.Paper.{accepted, refused, Said, refusal}
+use Rattle.answers.proofs.Verdicts.{fit-lengths}
 use Rattle.packed_word.specs.Packed.{bytesFor}
 use Rattle.parity_check.specs.Code.{Matrix}
 use Rattle.parity_check.proofs.Reading.{is-accepted}
 use Rattle.quantiser.specs.Samples.{Choice, hardBit, notFinite, firstNotFinite}
-use Rattle.iterative_core.specs.Iterative.{endFrom, reportAt, iterativeVerdict, iterativeOf, iterativeWord}
+use Rattle.iterative_core.specs.Iterative.{endFrom, reportAt, samplesVerdict, iterativeVerdict, iterativeOf, iterativeWord}
 use Rattle.iterative_core.specs.Calls.{Decoded}
 use Rattle.input.specs.Input.{sampleIn, samplesIn}
 use Rattle.input.specs.Opening.{Decodable}
@@ -72,6 +73,6 @@ module _ (H : Matrix) (S : Choice) (bs : List ℕ) where
 -- a block is decoded by the whole call of iterative voting: once matrix and setting are accepted, only refusal 8 is left to ask
 pub block-is-call : (H : Matrix) (S : Choice) (xs : List Float) (bytes levels : ℕ) → Decodable H S → length xs ≡ H .n → bytesFor (H .n) ≤ bytes → H .n ≤ levels
     → iterativeOf H S xs bytes levels ≡ blockSaid H S xs
-unfolding iterativeOf iterativeVerdict blockSaid blockVerdict
+unfolding iterativeOf iterativeVerdict samplesVerdict blockSaid blockVerdict
 block-is-call H S xs bytes levels d e w l =
-    rw (is-accepted H (d .matrix), d .setting, eq-eqb (length xs) (H .n) e, le-ltb bytes (bytesFor (H .n)) w, le-ltb levels (H .n) l)
+    rw (is-accepted H (d .matrix), d .setting, fit-lengths (length xs) (H .n) bytes (bytesFor (H .n)) levels (H .n) e w l)

@@ -1,54 +1,46 @@
--- The answer that each test gives, and the flipping rule for what is answered. Assumes nothing.
+-- The answer by what is asked, and the flipping rule for what is answered.
+--   refused-word     == what is asked of the received word refuses it: the buffer is kept
+--   word-lent        == it accepts: what the core is lent
+--   answered-voted   == and the core's answer is the call's
+--   refused-matrix   == the matrix is refused: the check's number and place
+--   answered-rule    == what is answered obeys the flipping rule
+-- Assumes nothing.
 use mathlib.Core.Path.{_≡_, refl, _∙_}
-use mathlib.Core.Bool.{true, false, _||_}
 use mathlib.Core.List.{List}
-use Prim.Native.Nat.{ℕ, _≤_, _<_}
-use lib.Dec.{ltb}
+use Prim.Native.Nat.{ℕ}
 use lib.ListN.{length}
-use borrow.Author.Tests.{eq-eqb, ne-eqb, lt-ltb, le-ltb}
-use Rattle.answers.specs.Paper.{accepted, refused, Said, refusal, refuseWhen}
-use Rattle.packed_word.specs.Packed.{bytesFor, spareSet}
+use Rattle.answers.specs.Paper.{accepted, refused, Said, refusal}
 use Rattle.parity_check.specs.Code.{Matrix}
 use Rattle.parity_check.specs.Check.{checkOf}
 use Rattle.parity_check.specs.Reading.{Accepted}
 use Rattle.parity_check.proofs.Reading.{is-accepted}
-use Rattle.syndrome.specs.Failing.{wrongLength}
+use Rattle.syndrome.specs.Failing.{wordVerdict}
+use Rattle.syndrome.proofs.Received.{word-fits}
 use Rattle.majority_logic.specs.OneStep.{oneStepVerdict, oneStepOf}
 use Rattle.majority_logic.specs.Claims.{FlippingRule}
 use Rattle.majority_logic.proofs.FlippingRule.{flipping-rule}
-use Rattle.one_step_core.specs.Stepped.{Voted, Answered}
+use Rattle.one_step_core.specs.Stepped.{Lent, Voted, Answered}
 
 module _ (H : Matrix) (a : Accepted H) (w old : List ℕ) where
   -- what is asked once the matrix is accepted
-  asked : oneStepVerdict H w (length old) ≡ refuseWhen 7 (wrongLength (H .n) w || ltb (length old) (bytesFor (H .n))) (refuseWhen 9 (spareSet (H .n) w) accepted)
+  asked : oneStepVerdict H w (length old) ≡ wordVerdict (H .n) w (length old) (H .n)
   unfolding oneStepVerdict
   asked = rw (is-accepted H a)
 
   -- a refusal keeps the buffer
-  kept : (k x : ℕ) (said : Said) → oneStepVerdict H w (length old) ≡ refused k x → said ≡ refusal k x → Answered H w old old said
+  pub refused-word : (k x : ℕ) (said : Said) → wordVerdict (H .n) w (length old) (H .n) ≡ refused k x → said ≡ refusal k x → Answered H w old old said
   unfolding oneStepOf
-  kept k x said v e = record { says = e ∙ rw v refl; word = rw v refl }
+  refused-word k x said v e = let q = asked ∙ v in record { says = e ∙ rw q refl; word = rw q refl }
 
-  pub refused-length : (said : Said) → (length w ≡ bytesFor (H .n) → ⊥) → said ≡ refusal 7 0 → Answered H w old old said
-  refused-length said ne e = kept 7 0 said (asked ∙ rw (ne-eqb (length w) (bytesFor (H .n)) ne) refl) e
+  module _ (v : wordVerdict (H .n) w (length old) (H .n) ≡ accepted) where
+    pub word-lent : Lent H w old
+    word-lent =
+        let fit = word-fits (H .n) w (length old) (H .n) v in
+        record { matrix = a; long = fit .0; spare = fit .3; room = fit .1 }
 
-  module _ (long : length w ≡ bytesFor (H .n)) where
-    pub refused-room : (said : Said) → length old < bytesFor (H .n) → said ≡ refusal 7 0 → Answered H w old old said
-    refused-room said h e =
-        kept 7 0 said (asked ∙ rw (eq-eqb (length w) (bytesFor (H .n)) long, lt-ltb (length old) (bytesFor (H .n)) h) refl) e
-
-    module _ (room : bytesFor (H .n) ≤ length old) where
-      passed : oneStepVerdict H w (length old) ≡ refuseWhen 9 (spareSet (H .n) w) accepted
-      passed = asked ∙ rw (eq-eqb (length w) (bytesFor (H .n)) long, le-ltb (length old) (bytesFor (H .n)) room) refl
-
-      pub refused-spare : (said : Said) → spareSet (H .n) w ≡ true → said ≡ refusal 9 0 → Answered H w old old said
-      refused-spare said t e = kept 9 0 said (passed ∙ rw t refl) e
-
-      pub answered-voted : (out : List ℕ) (said : Said) → spareSet (H .n) w ≡ false → Voted H w old out said → Answered H w old out said
-      unfolding oneStepOf
-      answered-voted out said t v =
-          let p : oneStepVerdict H w (length old) ≡ accepted = passed ∙ rw t refl in
-          record { says = v .says ∙ rw p refl; word = v .word ∙ rw p refl }
+    pub answered-voted : (out : List ℕ) (said : Said) → Voted H w old out said → Answered H w old out said
+    unfolding oneStepOf
+    answered-voted out said d = let q = asked ∙ v in record { says = d .says ∙ rw q refl; word = d .word ∙ rw q refl }
 
 -- a matrix that is refused is refused with the check's number and place
 pub refused-matrix : (H : Matrix) (w old : List ℕ) (k x : ℕ) (said : Said) → checkOf H ≡ refused k x → said ≡ refusal k x → Answered H w old old said

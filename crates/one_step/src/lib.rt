@@ -1,8 +1,7 @@
 // One-step majority-logic decoding of a received word: the whole call.
-// Rests on `one_step_core`, `packed_word` and `parity_check`. Document 01: "One-step voting"; refusals 1 to 5, 7 and 9.
+// Rests on `one_step_core`, `syndrome` and `parity_check`. Document 01: "One-step voting"; refusals 1 to 5, 7 and 9.
 use answers::Answer;
 use answers::Checked;
-use answers::Refusal;
 pub use one_step_core::one_step_accepted;
 use parity_check::Shape;
 ghost use Rattle.answers.specs.Answers.{saidOf};
@@ -17,17 +16,11 @@ fn on_accepted(shape: Shape, list: &[u16], received: &[u8], word: &mut [u8]) -> 
     ensures { λ r. ⌜ Answered (matrixOf shape (now (list .entry))) (now (received .entry)) (now (word .entry)) (now (word .exit)) (saidOf r) ⌝ }
 {
     let n = shape.n as usize;
-    let need = (n + 7) / 8;
-    if received.len() != need {
-        return Answer::Refused(Refusal::Buffer);
+    let asked = syndrome::ask_word(n, received, word.len(), n);
+    match asked {
+        Checked::Accepted => Answer::Done(one_step_accepted(shape, list, received, word)),
+        Checked::Refused(f) => Answer::Refused(f),
     }
-    if word.len() < need {
-        return Answer::Refused(Refusal::Buffer);
-    }
-    if packed_word::spare_set(received, n) {
-        return Answer::Refused(Refusal::Spare);
-    }
-    Answer::Done(one_step_accepted(shape, list, received, word))
 }
 
 // The matrix check, and what follows where it accepts.

@@ -6,14 +6,14 @@ use native.Mathlib.Omega.{arith}
 use lib.ListN.{length, take}
 use Rattle.counting.specs.Lists.{over}
 use Rattle.counting.proofs.Writing.{take-over}
-use Rattle.answers.specs.Paper.{Said, report}
+use Rattle.answers.specs.Paper.{Said, report, outcomeBy}
 use Rattle.packed_word.specs.Packed.{bitAt, bytesFor, pack, distance}
 use Rattle.packed_word.specs.Steps.{at, Unpacked}
 use Rattle.packed_word.proofs.Packing.{bit-bit, length-pack, bitAt-pack, spare-pack, pack-cong, spare-clear}
 use Rattle.packed_word.proofs.Distances.{distance-cong, distance-spare}
 use Rattle.parity_check.specs.Code.{Matrix, Word, failing}
 use Rattle.parity_check.proofs.Rows.{failing-cong}
-use Rattle.majority_logic.specs.OneStep.{outcomeBy, stepWord, stepRounds, oneStepReport, oneStepWord}
+use Rattle.majority_logic.specs.OneStep.{stepWord, stepRounds, oneStepReport, oneStepWord}
 use Rattle.majority_logic.proofs.Agreement.{stepWord-cong, stepRounds-cong}
 use Rattle.majority_logic.proofs.Correction.{stepWord-bit}
 use Rattle.one_step_core.specs.Stepped.{Stepped, Lent, Voted}

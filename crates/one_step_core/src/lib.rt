@@ -43,5 +43,5 @@ pub fn one_step_accepted(shape: Shape, list: &[u16], received: &[u8], word: &mut
     let v = vote(shape, list, &mut bits);
     packed_word::pack_into(&bits, n, word);
     let changed = packed_word::differing(&word[..need], received);
-    flips::ended(v.rounds, v.failing, changed)
+    answers::ended(v.rounds, v.failing, changed)
 }

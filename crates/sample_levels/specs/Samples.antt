@@ -3,6 +3,7 @@
 --   negative x           == x is below 0
 --   Choice               == a setting: bit width, round limit, kind of step (0 level step, 1 full scale) and step
 --   mostBits             == the widest level
+--   rangesFit b limit    == the bit width and the round limit are in range
 --   stepFits d, settingFits S   == the step, the setting is in range
 --   largest b            == L, the largest level of b bits
 --   tie                  == 0 where half-way samples go away from zero
@@ -54,10 +55,13 @@ mostBits = 8
 unfoldable pub stepFits : Float → Bool
 stepFits x = le (fin false 1 (negsuc 19)) x && le x (fin false 1 (pos 20))
 
--- "The width b is 2 to 8 .. The round limit is 0 to 255"; the step is of one of two kinds
+-- "The width b is 2 to 8 .. The round limit is 0 to 255"
+abbrev pub rangesFit : ℕ → ℕ → Bool
+rangesFit bits limit = leb 2 bits && (leb bits mostBits && leb limit 255)
+
+-- these two in range, and the step of one of two kinds and in range
 unfoldable pub settingFits : Choice → Bool
-settingFits S =
-    leb 2 (S .bits) && (leb (S .bits) mostBits && (leb (S .limit) 255 && (leb (S .kind) 1 && stepFits (S .step))))
+settingFits S = rangesFit (S .bits) (S .limit) && (leb (S .kind) 1 && stepFits (S .step))
 
 -- "L = 2^(b − 1) − 1"
 abbrev pub largest : ℕ → ℕ

@@ -125,10 +125,11 @@ pub fn level_by(s: Scale, x: f32) -> Cell
     with_sign(negative, n)
 }
 
-// The largest level of so many bits. Only this repository's crates call it, with a width in range.
-pub fn top_of(bits: u16) -> u64
+// L, the largest level of so many bits. Only this repository's crates call it, with a width in range.
+pub fn largest_of(bits: u16) -> u8
     requires { ⌜ (2 ≤ bits) × (bits ≤ mostBits) ⌝ }
     ensures { λ r. ⌜ r ≡ largest bits ⌝ }
 {
-    (1u64 << (bits - 1)) - 1
+    let top = (1u16 << (bits - 1)) - 1;
+    top as u8
 }

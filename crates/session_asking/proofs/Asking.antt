@@ -5,7 +5,7 @@ use mathlib.Core.List.{List}
 use Prim.Native.Nat.{ℕ, _+_, _≤_, _<_}
 use native.Mathlib.Omega.{arith}
 use borrow.Author.Tests.{ltb-false, leb-false, eqb-true, not-false, lt-ltb, le-ltb, lt-leb, eq-eqb}
-use lib.Dec.{T, eqb, leb, ltb}
+use lib.Dec.{T, eqb, leb}
 use lib.IntN.{ℤ, pos, natAbs}
 use lib.Ieee.{Float, nan}
 use lib.Ieee.Scale.{finite}
@@ -13,18 +13,21 @@ use lib.ListN.{length, getD}
 use Rattle.counting.specs.Search.{any}
 use Rattle.counting.proofs.Searches.{never, and-left, and-right, or-left, or-right, any-step, any-none, any-at, any-clear, first-none}
 use Rattle.answers.specs.Paper.{Verdict, accepted, refuseWhen, andThen}
-use Rattle.answers.proofs.Verdicts.{passed, passed-on}
+use Rattle.answers.proofs.Verdicts.{passed, passed-on, fit-lengths}
 use Rattle.packed_word.specs.Packed.{bytesFor, spareSet}
 use Rattle.parity_check.specs.Code.{Matrix}
 use Rattle.parity_check.specs.Check.{checkOf}
 use Rattle.parity_check.specs.Reading.{Accepted}
 use Rattle.parity_check.proofs.Reading.{accepted-is, is-accepted}
-use Rattle.quantiser.specs.Samples.{Choice, mostBits, largest, notFinite, firstNotFinite}
+use Rattle.syndrome.proofs.Received.{word-fits, fits-word}
+use Rattle.sample_levels.specs.Samples.{rangesFit}
+use Rattle.settings.proofs.Ranges.{ranges-read, read-ranges}
+use Rattle.quantiser.specs.Samples.{Choice, largest, notFinite, firstNotFinite}
 use Rattle.quantiser.proofs.Ranges.{fits-reads, reads-fits, all-finite}
-use Rattle.iterative_core.specs.Iterative.{iterativeVerdict}
+use Rattle.iterative_core.specs.Iterative.{samplesVerdict, iterativeVerdict}
 use Rattle.iterative_core.proofs.Loans.{verdict-lent}
 use Rattle.session_record.specs.Record.{Record, working, decoded, failed}
-use Rattle.session_asking.specs.Asked.{Held, unusable, ended, otherSizes, wrongBuffers, beyond, openVerdict, stepVerdict}
+use Rattle.session_asking.specs.Asked.{Held, unusable, ended, otherSizes, beyond, openVerdict, stepVerdict}
 use Rattle.session_asking.specs.Reading.{Openable, Usable, Steppable}
 use Rattle.session_asking.specs.Parts.{far, knownVerdict}
 
@@ -36,16 +39,16 @@ unfolding unusable ended
 usable-is r u e =
     let some : (eqb (r .state) working || (eqb (r .state) decoded || eqb (r .state) failed)) ≡ true = not-false _ (or-left _ _ u) in
     let w : eqb (r .state) working ≡ true = only (eqb (r .state) working) _ some e in
-    let rest : (ltb (r .bits) 2 || (ltb mostBits (r .bits) || (ltb 255 (r .limit) || leb (r .limit) (r .k)))) ≡ false =
+    let rest : (not (rangesFit (r .bits) (r .limit)) || leb (r .limit) (r .k)) ≡ false =
     asked (eqb (r .state) working) _ w (or-right (not (eqb (r .state) working || (eqb (r .state) decoded || eqb (r .state) failed))) _ u) in
-    let rest₁ = or-right (ltb (r .bits) 2) _ rest in
-    let rest₂ = or-right (ltb mostBits (r .bits)) _ rest₁ in
+    let within : rangesFit (r .bits) (r .limit) ≡ true = not-false _ (or-left (not (rangesFit (r .bits) (r .limit))) (leb (r .limit) (r .k)) rest) in
+    let fit = ranges-read (r .bits) (r .limit) within in
     record {
       works = eqb-true (r .state) working w;
-      least = ltb-false (r .bits) 2 (or-left _ _ rest);
-      most = ltb-false mostBits (r .bits) (or-left _ _ rest₁);
-      limit = ltb-false 255 (r .limit) (or-left _ _ rest₂);
-      left = leb-false (r .limit) (r .k) (or-right (ltb 255 (r .limit)) _ rest₂);
+      least = fit .0;
+      most = fit .1;
+      limit = fit .2;
+      left = leb-false (r .limit) (r .k) (or-right (not (rangesFit (r .bits) (r .limit))) (leb (r .limit) (r .k)) rest);
     }
   where
     only : (a b : Bool) → (a || b) ≡ true → b ≡ false → a ≡ true
@@ -59,25 +62,24 @@ usable-is r u e =
 is-usable : (r : Record) → Usable r → (unusable r ≡ false) × (ended r ≡ false)
 unfolding unusable ended
 is-usable r u = (
-  rw (u .works, le-ltb (r .bits) 2 (u .least), le-ltb mostBits (r .bits) (u .most), le-ltb 255 (r .limit) (u .limit), lt-leb (r .limit) (r .k) (u .left)),
+  rw (u .works, read-ranges (r .bits) (r .limit) (u .least) (u .most) (u .limit), lt-leb (r .limit) (r .k) (u .left)),
   rw (u .works),
 )
 
 module _ (H : Matrix) (w : List ℕ) (h : Held) where
   pub accepted-step : stepVerdict H w h ≡ accepted → Steppable H w h
-  unfolding stepVerdict otherSizes wrongBuffers beyond
+  unfolding stepVerdict otherSizes beyond
   accepted-step e =
       let p20 = passed _ 20 0 _ e in
       let p21 = passed _ 21 0 _ (p20 .1) in
       let p5 = passed-on _ _ (p21 .1) in
       let p22 = passed _ 22 0 _ (p5 .1) in
-      let p7 = passed _ 7 0 _ (p22 .1) in
-      let p9 = passed _ 9 0 _ (p7 .1) in
+      let p9 = passed-on _ _ (p22 .1) in
+      let fit = word-fits (H .n) w (length (h .word)) (length (h .levels)) (p9 .0) in
       let p23 = passed _ 23 0 _ (p9 .1) in
       let sizes = not-false _ (p22 .0) in
       let sizes₁ = and-right (eqb (H .n) (h .rec .n)) _ sizes in
       let sizes₂ = and-right (eqb (H .m) (h .rec .m)) _ sizes₁ in
-      let buffers = or-right (not (eqb (length w) (bytesFor (H .n)))) _ (p7 .0) in
       record {
         usable = usable-is (h .rec) (p20 .0) (p21 .0);
         matrix = accepted-is H (p5 .0);
@@ -85,16 +87,16 @@ module _ (H : Matrix) (w : List ℕ) (h : Held) where
         same-m = eqb-true (H .m) (h .rec .m) (and-left _ _ sizes₁);
         same-rho = eqb-true (H .rho) (h .rec .rho) (and-left _ _ sizes₂);
         same-gamma = eqb-true (H .gamma) (h .rec .gamma) (and-right (eqb (H .rho) (h .rec .rho)) _ sizes₂);
-        received = eqb-true (length w) (bytesFor (H .n)) (not-false _ (or-left _ _ (p7 .0)));
-        bytes = ltb-false (length (h .word)) (bytesFor (H .n)) (or-left _ _ buffers);
-        room = ltb-false (length (h .levels)) (H .n) (or-right (ltb (length (h .word)) (bytesFor (H .n))) _ buffers);
-        clear = p9 .0;
+        received = fit .0;
+        bytes = fit .1;
+        room = fit .2;
+        clear = fit .3;
         word-clear = or-left _ _ (p23 .0);
         within = λ j l. ltb-false (largest (h .rec .bits)) (natAbs (getD (h .levels) j (pos 0))) (any-clear (far (largest (h .rec .bits)) (h .levels)) (H .n) (or-right (spareSet (H .n) (h .word)) _ (p23 .0)) j l);
       }
 
   pub step-accepted : Steppable H w h → stepVerdict H w h ≡ accepted
-  unfolding stepVerdict otherSizes wrongBuffers beyond
+  unfolding stepVerdict otherSizes beyond
   step-accepted s =
       let u : (unusable (h .rec) ≡ false) × (ended (h .rec) ≡ false) =
       is-usable (h .rec) (s .usable) in
@@ -106,10 +108,7 @@ module _ (H : Matrix) (w : List ℕ) (h : Held) where
         eq-eqb (H .m) (h .rec .m) (s .same-m),
         eq-eqb (H .rho) (h .rec .rho) (s .same-rho),
         eq-eqb (H .gamma) (h .rec .gamma) (s .same-gamma),
-        eq-eqb (length w) (bytesFor (H .n)) (s .received),
-        le-ltb (length (h .word)) (bytesFor (H .n)) (s .bytes),
-        le-ltb (length (h .levels)) (H .n) (s .room),
-        s .clear,
+        fits-word (H .n) w (length (h .word)) (length (h .levels)) (s .received) (s .bytes) (s .room) (s .clear),
         s .word-clear,
         any-none (far (largest (h .rec .bits)) (h .levels)) (H .n) (λ j l. le-ltb (largest (h .rec .bits)) (natAbs (getD (h .levels) j (pos 0))) (s .within j l)),
       )
@@ -140,14 +139,12 @@ module _ (H : Matrix) (S : Choice) (xs : List Float) (h : Held) where
       }
 
   pub open-accepted : Openable H S xs h → openVerdict H S xs h ≡ accepted
-  unfolding openVerdict iterativeVerdict
+  unfolding openVerdict iterativeVerdict samplesVerdict
   open-accepted o =
       rw (
         is-accepted H (o .matrix),
         reads-fits S (o .setting),
-        eq-eqb (length xs) (H .n) (o .samples),
-        le-ltb (length (h .word)) (bytesFor (H .n)) (o .bytes),
-        le-ltb (length (h .levels)) (H .n) (o .room),
+        fit-lengths (length xs) (H .n) (length (h .word)) (bytesFor (H .n)) (length (h .levels)) (H .n) (o .samples) (o .bytes) (o .room),
         finite-first xs (o .finite-all),
         le-ltb (length xs) (length xs) (omega arith),
       )

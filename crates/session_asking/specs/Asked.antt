@@ -4,7 +4,6 @@
 --   openVerdict, stepVerdict   == what opening and a step ask, in their order
 --   unusable, ended    == refusals 20 and 21
 --   otherSizes         == refusal 22
---   wrongBuffers       == refusal 7 of a step
 --   beyond             == refusal 23
 -- Assumes nothing.
 use Prim.Native.Nat.{ℕ}
@@ -16,11 +15,12 @@ use lib.Ieee.{Float}
 use lib.ListN.{length, getD}
 use Rattle.counting.specs.Search.{any}
 use Rattle.answers.specs.Paper.{Verdict, accepted, refuseWhen, andThen}
-use Rattle.packed_word.specs.Packed.{bytesFor, spareSet}
+use Rattle.packed_word.specs.Packed.{spareSet}
 use Rattle.parity_check.specs.Code.{Matrix}
 use Rattle.parity_check.specs.Check.{checkOf}
-use Rattle.syndrome.specs.Failing.{wrongLength}
-use Rattle.quantiser.specs.Samples.{Choice, largest, mostBits}
+use Rattle.syndrome.specs.Failing.{wordVerdict}
+use Rattle.sample_levels.specs.Samples.{rangesFit}
+use Rattle.quantiser.specs.Samples.{Choice, largest}
 use Rattle.iterative_core.specs.Iterative.{iterativeVerdict}
 use Rattle.session_record.specs.Record.{Record, working, decoded, failed}
 
@@ -42,8 +42,7 @@ openVerdict H S xs h = iterativeVerdict H S xs (length (h .word)) (length (h .le
 unfoldable pub unusable : Record → Bool
 unusable r =
     not (eqb (r .state) working || (eqb (r .state) decoded || eqb (r .state) failed))
-    || (eqb (r .state) working
-    && (ltb (r .bits) 2 || (ltb mostBits (r .bits) || (ltb 255 (r .limit) || leb (r .limit) (r .k)))))
+    || (eqb (r .state) working && (not (rangesFit (r .bits) (r .limit)) || leb (r .limit) (r .k)))
 
 -- refusal 21: "the record is decoded or failed"
 unfoldable pub ended : Record → Bool
@@ -53,11 +52,6 @@ ended r = eqb (r .state) decoded || eqb (r .state) failed
 unfoldable pub otherSizes : Matrix → Record → Bool
 otherSizes H r =
     not (eqb (H .n) (r .n) && (eqb (H .m) (r .m) && (eqb (H .rho) (r .rho) && eqb (H .gamma) (r .gamma))))
-
--- refusal 7: "a received word not exactly its bytes, or a written buffer shorter than needed"
-unfoldable pub wrongBuffers : Matrix → List ℕ → Held → Bool
-wrongBuffers H w h =
-    wrongLength (H .n) w || (ltb (length (h .word)) (bytesFor (H .n)) || ltb (length (h .levels)) (H .n))
 
 -- refusal 23: "a spare place set in the current word, or a level beyond ±L among the first n"
 unfoldable pub beyond : Matrix → Record → Held → Bool
@@ -71,6 +65,5 @@ stepVerdict H w h =
     (refuseWhen 21 (ended (h .rec))
     (andThen (checkOf H)
     (refuseWhen 22 (otherSizes H (h .rec))
-    (refuseWhen 7 (wrongBuffers H w h)
-    (refuseWhen 9 (spareSet (H .n) w)
-    (refuseWhen 23 (beyond H (h .rec) h) accepted))))))
+    (andThen (wordVerdict (H .n) w (length (h .word)) (length (h .levels)))
+    (refuseWhen 23 (beyond H (h .rec) h) accepted)))))

@@ -1,28 +1,26 @@
 -- A session's record, word and levels in document 01's terms, and the parts in which opening and a step ask.
 --   heldOf s word levels    == a session, a word and levels, as a call is lent them
 --   outOfRange b limit k    == what refusal 20 asks of a working record
---   wrongLengths ..         == refusal 7 by lengths
 --   far L R j               == the level at place j lies beyond ±L
---   samplesVerdict n S xs ..   == what opening asks of what is lent with an accepted matrix
 --   beyondIn n L ..         == refusal 23 of a word and levels
 --   knownVerdict H r, lentVerdict H w h   == what a step asks of its record and its matrix, and of what is lent with them
 -- Assumes nothing.
 use Prim.Native.Nat.{ℕ}
 use mathlib.Core.Bool.{Bool, not, _||_}
 use mathlib.Core.List.{List}
-use lib.Dec.{eqb, leb, ltb}
+use lib.Dec.{leb, ltb}
 use lib.IntN.{ℤ, pos, natAbs}
-use lib.Ieee.{Float}
 use lib.ListN.{length, getD}
 use Rattle.counting.specs.Search.{any}
-use Rattle.answers.specs.Paper.{Verdict, accepted, refuseWhen, refuseAt, andThen}
-use Rattle.packed_word.specs.Packed.{bytesFor, spareSet}
+use Rattle.answers.specs.Paper.{Verdict, accepted, refuseWhen, andThen}
+use Rattle.packed_word.specs.Packed.{spareSet}
 use Rattle.parity_check.specs.Code.{Matrix}
 use Rattle.parity_check.specs.Check.{checkOf}
-use Rattle.quantiser.specs.Samples.{Choice, mostBits, settingFits, firstNotFinite}
+use Rattle.sample_levels.specs.Samples.{rangesFit}
+use Rattle.syndrome.specs.Failing.{wordVerdict}
 use Rattle.session_record.specs.Record.{Record}
 use Rattle.session_record.specs.Sessions.{recordOf}
-use Rattle.session_asking.specs.Asked.{Held, lent, unusable, ended, otherSizes, wrongBuffers, beyond}
+use Rattle.session_asking.specs.Asked.{Held, lent, unusable, ended, otherSizes, beyond}
 use Rattle.session_record.specs.declared.Session.{Session}
 
 abbrev pub heldOf : Session → List ℕ → List ℤ → Held
@@ -30,21 +28,11 @@ heldOf s word levels = lent (recordOf s) word levels
 
 -- "b or the round limit out of range or k not below the round limit"
 abbrev pub outOfRange : ℕ → ℕ → ℕ → Bool
-outOfRange bits limit k = ltb bits 2 || (ltb mostBits bits || (ltb 255 limit || leb limit k))
-
--- refusal 7 by lengths: what is lent is not `wanted` long, or there is no room for a word and levels of n bits
-abbrev pub wrongLengths : ℕ → ℕ → ℕ → ℕ → ℕ → Bool
-wrongLengths lent wanted n bytes room = not (eqb lent wanted) || (ltb bytes (bytesFor n) || ltb room n)
+outOfRange bits limit k = not (rangesFit bits limit) || leb limit k
 
 -- "a level beyond ±L"
 abbrev pub far : ℕ → List ℤ → ℕ → Bool
 far L R j = ltb L (natAbs (getD R j (pos 0)))
-
--- 6, 7, 8: what opening asks of what is lent with an accepted matrix
-unfoldable pub samplesVerdict : ℕ → Choice → List Float → ℕ → ℕ → Verdict
-samplesVerdict n S xs bytes room =
-    refuseWhen 6 (not (settingFits S))
-    (refuseWhen 7 (wrongLengths (length xs) n n bytes room) (refuseAt 8 (firstNotFinite xs) (length xs) accepted))
 
 -- refusal 23 of a word and levels
 abbrev pub beyondIn : ℕ → ℕ → List ℕ → List ℤ → Bool
@@ -59,5 +47,4 @@ knownVerdict H r =
 -- 7, 9, 23: and of what is lent with them
 unfoldable pub lentVerdict : Matrix → List ℕ → Held → Verdict
 lentVerdict H w h =
-    refuseWhen 7 (wrongBuffers H w h)
-    (andThen (refuseWhen 9 (spareSet (H .n) w) accepted) (refuseWhen 23 (beyond H (h .rec) h) accepted))
+    andThen (wordVerdict (H .n) w (length (h .word)) (length (h .levels))) (refuseWhen 23 (beyond H (h .rec) h) accepted)

@@ -1,7 +1,9 @@
 // What opening a session and a step of it ask (specs/), and the questions of a step in their order.
-// Rests on `session_record`, `iterative_core`, `quantiser`, `packed_word` and `parity_check`. Document 01: "Refused for the session"; refusals 1 to 9.
+// Rests on `session_record`, `sample_levels`, `settings`, `syndrome`, `packed_word` and `parity_check`. Document 01: "Refused for the session"; refusals 1 to 9.
 use answers::Checked;
 use answers::Refusal;
+use answers::and_then;
+use answers::refused_when;
 use parity_check::Shape;
 use session_record::Session;
 use session_record::State;
@@ -11,27 +13,20 @@ ghost use mathlib.Core.List.{[]};
 ghost use lib.IntN.{natAbs};
 ghost use lib.ListN.{length};
 ghost use Rattle.counting.specs.Search.{any};
-ghost use Rattle.answers.specs.Paper.{accepted, refuseIf, andThen};
-ghost use Rattle.answers.specs.Answers.{numberOf, placeOf, verdictOf};
+ghost use Rattle.answers.specs.Answers.{verdictOf};
 ghost use Rattle.packed_word.specs.Packed.{bytesFor};
 ghost use Rattle.parity_check.specs.Reading.{Accepted};
 ghost use Rattle.parity_check.specs.Shapes.{matrixOf};
 ghost use Rattle.session_record.specs.Sessions.{recordOf};
 ghost use Rattle.session_asking.specs.Asked.{unusable, ended, otherSizes, stepVerdict};
 ghost use Rattle.session_asking.specs.Reading.{Usable};
-ghost use Rattle.session_asking.specs.Parts.{heldOf, outOfRange, wrongLengths, far, beyondIn, knownVerdict, lentVerdict};
+ghost use Rattle.session_asking.specs.Parts.{heldOf, outOfRange, far, beyondIn, knownVerdict, lentVerdict};
 
 // Whether b, the round limit or k of a working record is out of range.
 fn out_of_range(bits: u16, limit: u16, k: u16) -> bool
     ensures { λ r. ⌜ r ≡ outOfRange bits limit k ⌝ }
 {
-    if bits < 2 {
-        return true;
-    }
-    if quantiser::MOST_BITS < bits {
-        return true;
-    }
-    if 255 < limit {
+    if !settings::ranges_fit(bits, limit) {
         return true;
     }
     limit <= k
@@ -110,21 +105,6 @@ fn any_far(levels: &[i8], n: usize, middle: u8) -> bool
     false
 }
 
-// Refusal 7: what is lent has not the length wanted, or a written buffer is too short for n bits.
-// Only this repository's crates call it, after the matrix is accepted.
-pub fn wrong_lengths(lent: usize, wanted: usize, n: usize, bytes: usize, room: usize) -> bool
-    requires { ⌜ n ≤ 1023 ⌝ }
-    ensures { λ r. ⌜ r ≡ wrongLengths lent wanted n bytes room ⌝ }
-{
-    if lent != wanted {
-        return true;
-    }
-    if bytes < (n + 7) / 8 {
-        return true;
-    }
-    room < n
-}
-
 // Refusal 23: a spare place set in the word, or one of the first n levels beyond ±L.
 fn is_beyond(n: usize, middle: u8, word: &[u8], levels: &[i8]) -> bool
     requires { ⌜ (n ≤ 1023) × (bytesFor n ≤ length (now word)) × (n ≤ length (now levels)) ⌝ }
@@ -135,26 +115,6 @@ fn is_beyond(n: usize, middle: u8, word: &[u8], levels: &[i8]) -> bool
         return true;
     }
     any_far(levels, n, middle)
-}
-
-// A refusal where the test passes.
-fn refused_when(test: bool, f: Refusal) -> Checked
-    ensures { λ r. ⌜ verdictOf r ≡ refuseIf test (numberOf f) (placeOf f) accepted ⌝ }
-{
-    if test {
-        return Checked::Refused(f);
-    }
-    Checked::Accepted
-}
-
-// What is asked first, then what is asked next.
-fn and_then(first: Checked, next: Checked) -> Checked
-    ensures { λ r. ⌜ verdictOf r ≡ andThen (verdictOf first) (verdictOf next) ⌝ }
-{
-    match first {
-        Checked::Accepted => next,
-        Checked::Refused(f) => Checked::Refused(f),
-    }
 }
 
 // What a step asks of its record and its matrix: 20, 21, 1 to 5, 22.
@@ -181,14 +141,12 @@ fn ask_lent(
     ensures { λ r. ⌜ verdictOf r ≡ lentVerdict (matrixOf shape (now (list .entry))) (now (received .entry)) (heldOf session (now (word .entry)) (now (levels .entry))) ⌝ }
 {
     let n = shape.n as usize;
-    let need = (n + 7) / 8;
-    if wrong_lengths(received.len(), need, n, word.len(), levels.len()) {
-        return Checked::Refused(Refusal::Buffer);
+    let middle = sample_levels::largest_of(session.bits);
+    let asked = syndrome::ask_word(n, received, word.len(), levels.len());
+    match asked {
+        Checked::Accepted => refused_when(is_beyond(n, middle, word, levels), Refusal::Beyond),
+        Checked::Refused(f) => Checked::Refused(f),
     }
-    let middle = iterative_core::middle_of(session.bits);
-    let spare = refused_when(packed_word::spare_set(received, n), Refusal::Spare);
-    let beyond = refused_when(is_beyond(n, middle, word, levels), Refusal::Beyond);
-    and_then(spare, beyond)
 }
 
 // What a step asks, in its order.

@@ -1,42 +1,21 @@
 // Opening a session, by value: what it asks, and the record in and out.
-// Rests on `session_steps`, `session_asking`, `session_record`, `quantiser`, `packed_word`, `syndrome` and `parity_check`. Document 01: "Rounds one at a time"; refusals 1 to 8.
+// Rests on `session_steps`, `session_asking`, `session_record`, `iterative_core`, `quantiser`, `packed_word`, `syndrome` and `parity_check`. Document 01: "Rounds one at a time"; refusals 1 to 8.
 use answers::Checked;
-use answers::Refusal;
 use parity_check::Shape;
 use quantiser::Setting;
-use session_asking::wrong_lengths;
 use session_record::Course;
 use session_record::Session;
 use session_record::Turn;
 ghost use mathlib.Core.Path.{_≡_};
-ghost use Prim.Native.Nat.{_≤_};
 ghost use Rattle.answers.specs.Answers.{verdictOf};
 ghost use Rattle.parity_check.specs.Shapes.{matrixOf};
 ghost use Rattle.quantiser.specs.Settings.{choiceOf};
 ghost use Rattle.iterative_core.specs.Iterative.{iterativeVerdict};
 ghost use Rattle.session_asking.specs.Asked.{lent};
 ghost use Rattle.session_asking.specs.Reading.{Openable};
-ghost use Rattle.session_asking.specs.Parts.{heldOf, samplesVerdict};
+ghost use Rattle.session_asking.specs.Parts.{heldOf};
 ghost use Rattle.session_steps.specs.Steps.{openedLeft, openOf};
 ghost use Rattle.session_steps.specs.Leaving.{blank, Leaves};
-
-// What opening asks once its matrix is accepted: 6, 7, 8.
-fn ask_samples(n: usize, setting: Setting, samples: &[f32], bytes: usize, room: usize) -> Checked
-    requires { ⌜ n ≤ 1023 ⌝ }
-    ensures { λ r. ⌜ verdictOf r ≡ samplesVerdict n (choiceOf setting) (now (samples .entry)) bytes room ⌝ }
-{
-    if !quantiser::setting_fits(setting) {
-        return Checked::Refused(Refusal::Setting);
-    }
-    if wrong_lengths(samples.len(), n, n, bytes, room) {
-        return Checked::Refused(Refusal::Buffer);
-    }
-    let found = quantiser::first_not_finite(samples);
-    if found < samples.len() {
-        return Checked::Refused(Refusal::Sample(found as u16));
-    }
-    Checked::Accepted
-}
 
 // What opening asks, in its order: 1 to 8.
 fn ask_open(
@@ -52,7 +31,7 @@ fn ask_open(
     let n = shape.n as usize;
     let asked = parity_check::check(shape, list);
     match asked {
-        Checked::Accepted => ask_samples(n, setting, samples, bytes, room),
+        Checked::Accepted => iterative_core::ask_samples(n, setting, samples, bytes, room),
         Checked::Refused(f) => Checked::Refused(f),
     }
 }

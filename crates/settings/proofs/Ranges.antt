@@ -1,6 +1,13 @@
--- Laws for the crates above: refusal 6 in plain words, the bounds of levels and of hard bits. Assumes nothing.
+-- Laws for the crates above: refusal 6 in plain words, the bounds of levels and of hard bits.
+--   ranges-read, read-ranges   == the width and the limit are in range exactly where 2 ≤ b ≤ 8 and the limit is at most 255
+--   fits-reads, reads-fits     == a setting is in range exactly where each of its numbers is
+--   largest-some, largest-most   == the largest level is from 1 to 127
+--   level-bound                == no level lies beyond the largest
+--   all-finite                 == where the search for a sample that is not finite finds none, every sample is finite
+--   hard-bit, hard-bit-at      == a hard bit is a bit
+-- Assumes nothing.
 use mathlib.Core.Path.{_≡_, refl, sym, subst}
-use mathlib.Core.Bool.{Bool, true, false, not, cond}
+use mathlib.Core.Bool.{Bool, true, false, not, cond, _&&_}
 use mathlib.Core.List.{List}
 use Prim.Native.Nat.{ℕ, zero, suc, min, _-_, _*_, _^_, _≤_, _<_}
 use native.Mathlib.Omega.{arith}
@@ -12,30 +19,40 @@ use lib.Ieee.Scale.{finite}
 use lib.ListN.{length, getD}
 use borrow.Author.Tests.{leb-true, le-leb, not-false}
 use Rattle.counting.proofs.Searches.{and-left, and-right, first-clear}
-use Rattle.sample_levels.specs.Samples.{Choice, units, negative, mostBits, settingFits, largest, gain, nearest, magnitude, signed, levelOf}
-use Rattle.sample_levels.specs.Samples.{hardOf, hardBit, notFinite, firstNotFinite}
+use Rattle.sample_levels.specs.Samples.{Choice, units, negative, mostBits, rangesFit, settingFits, largest, gain, nearest}
+use Rattle.sample_levels.specs.Samples.{magnitude, signed, levelOf, hardOf, hardBit, notFinite, firstNotFinite}
 use Rattle.settings.specs.Ranges.{InRange}
 
 -- ---- refusal 6
 
+pub ranges-read : (b limit : ℕ) → rangesFit b limit ≡ true → (2 ≤ b) × (b ≤ mostBits) × (limit ≤ 255)
+ranges-read b limit e =
+    let e₁ = and-right (leb 2 b) (leb b mostBits && leb limit 255) e in (
+      leb-true 2 b (and-left (leb 2 b) (leb b mostBits && leb limit 255) e),
+      leb-true b mostBits (and-left (leb b mostBits) (leb limit 255) e₁),
+      leb-true limit 255 (and-right (leb b mostBits) (leb limit 255) e₁),
+    )
+
+pub read-ranges : (b limit : ℕ) → 2 ≤ b → b ≤ mostBits → limit ≤ 255 → rangesFit b limit ≡ true
+read-ranges b limit least most few = simp (le-leb _ _ least, le-leb _ _ most, le-leb _ _ few)
+
 pub fits-reads : (S : Choice) → settingFits S ≡ true → InRange S
 unfolding settingFits
 fits-reads S e =
-    let e₁ = and-right (leb 2 (S .bits)) _ e in
-    let e₂ = and-right (leb (S .bits) mostBits) _ e₁ in
-    let e₃ = and-right (leb (S .limit) 255) _ e₂ in
+    let r = ranges-read (S .bits) (S .limit) (and-left (rangesFit (S .bits) (S .limit)) _ e) in
+    let e₁ = and-right (rangesFit (S .bits) (S .limit)) _ e in
     record {
-      least = leb-true 2 (S .bits) (and-left (leb 2 (S .bits)) _ e);
-      most = leb-true (S .bits) mostBits (and-left (leb (S .bits) mostBits) _ e₁);
-      limit = leb-true (S .limit) 255 (and-left (leb (S .limit) 255) _ e₂);
-      kind = leb-true (S .kind) 1 (and-left (leb (S .kind) 1) _ e₃);
-      step = and-right (leb (S .kind) 1) _ e₃;
+      least = r .0;
+      most = r .1;
+      limit = r .2;
+      kind = leb-true (S .kind) 1 (and-left (leb (S .kind) 1) _ e₁);
+      step = and-right (leb (S .kind) 1) _ e₁;
     }
 
 pub reads-fits : (S : Choice) → InRange S → settingFits S ≡ true
 unfolding settingFits
 reads-fits S r =
-    simp (le-leb _ _ (r .least), le-leb _ _ (r .most), le-leb _ _ (r .limit), le-leb _ _ (r .kind), r .step)
+    simp (read-ranges (S .bits) (S .limit) (r .least) (r .most) (r .limit), le-leb _ _ (r .kind), r .step)
 
 -- ---- levels
 

@@ -1,11 +1,11 @@
 // The setting: the bit width, the round limit and the step, whether they are in range, and the scale of its samples.
 // Rests on `sample_levels`. Document 01: "Samples and levels"; refusal 6.
 use sample_levels::Scale;
+use sample_levels::largest_of;
 use sample_levels::take_apart;
-use sample_levels::top_of;
 ghost use mathlib.Core.Path.{_≡_};
 ghost use mathlib.Core.Bool.{true};
-ghost use Rattle.sample_levels.specs.Samples.{stepFits, settingFits};
+ghost use Rattle.sample_levels.specs.Samples.{rangesFit, stepFits, settingFits};
 ghost use Rattle.sample_levels.specs.Scaling.{Scaled};
 ghost use Rattle.settings.specs.Settings.{choiceOf, stepOf, gainBy};
 
@@ -23,6 +23,19 @@ pub struct Setting {
     pub bits: u16,
     pub limit: u16,
     pub step: Step,
+}
+
+// Whether the bit width and the round limit are in range.
+pub fn ranges_fit(bits: u16, limit: u16) -> bool
+    ensures { λ r. ⌜ r ≡ rangesFit bits limit ⌝ }
+{
+    if bits < 2 {
+        return false;
+    }
+    if MOST_BITS < bits {
+        return false;
+    }
+    limit <= 255
 }
 
 // Whether a setting may have this step: from 2 ^ -20 to 2 ^ 20. A NaN fails here too.
@@ -49,13 +62,7 @@ pub fn setting_fits(s: Setting) -> bool
     let bits = s.bits;
     let limit = s.limit;
     let step = s.step;
-    if bits < 2 {
-        return false;
-    }
-    if MOST_BITS < bits {
-        return false;
-    }
-    if 255 < limit {
+    if !ranges_fit(bits, limit) {
         return false;
     }
     step_fits(step_of(step))
@@ -78,7 +85,7 @@ pub fn scale_of(setting: Setting) -> Scale
 {
     let bits = setting.bits;
     let step = setting.step;
-    let top = top_of(bits);
+    let top = largest_of(bits) as u64;
     let gain = gain_by(step, top);
     let d = take_apart(step_of(step));
     Scale {

@@ -1,13 +1,17 @@
-// The syndrome of a word: which parity checks fail, and how many.
-// Rests on `parity_check` and the definitions of `packed_word`. Document 01: "The code and the block".
+// The syndrome of a word: which parity checks fail, and how many; and what every call asks of a received word.
+// Rests on `parity_check` and `packed_word`. Document 01: "The code and the block"; refusals 7 and 9.
+use answers::Checked;
+use answers::Refusal;
 use parity_check::Shape;
 ghost use mathlib.Core.Path.{_≡_};
-ghost use Prim.Native.Nat.{_%_};
+ghost use Prim.Native.Nat.{_%_, _≤_};
 ghost use lib.ListN.{length};
+ghost use Rattle.answers.specs.Answers.{verdictOf};
 ghost use Rattle.packed_word.specs.Steps.{at};
 ghost use Rattle.parity_check.specs.Code.{Word, fails, failing};
 ghost use Rattle.parity_check.specs.Reading.{Accepted};
 ghost use Rattle.parity_check.specs.Shapes.{matrixOf};
+ghost use Rattle.syndrome.specs.Failing.{wordVerdict};
 ghost use Rattle.syndrome.specs.Places.{Part, BitsAt, ones, Checks, rowFails, Places};
 
 // The parity of the bits at `count` column numbers of the list: a row's check fails where it is 1.
@@ -67,4 +71,17 @@ pub fn failing_count(shape: Shape, list: &[u16], bits: &[u8; 1023]) -> u16
         i += 1;
     }
     count
+}
+
+// What is asked of a received word and the written buffers: 7, 9. A buffer that the call does not write is given as just long enough.
+// Only this repository's crates call it, after the matrix is accepted.
+pub fn ask_word(n: usize, received: &[u8], bytes: usize, room: usize) -> Checked
+    requires { ⌜ n ≤ 1023 ⌝ }
+    ensures { λ r. ⌜ verdictOf r ≡ wordVerdict n (now (received .entry)) bytes room ⌝ }
+{
+    let need = (n + 7) / 8;
+    if answers::wrong_lengths(received.len(), need, bytes, need, room, n) {
+        return Checked::Refused(Refusal::Buffer);
+    }
+    answers::refused_when(packed_word::spare_set(received, n), Refusal::Spare)
 }

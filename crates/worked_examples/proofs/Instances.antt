@@ -17,7 +17,7 @@ use Rattle.parity_check.specs.Code.{entry, has, weight, common, fails, failing}
 use Rattle.parity_check.specs.Check.{sizesFit, badEntry, badWeight, overlapping, listOf, checkOf}
 use Rattle.quantiser.specs.Samples.{stepFits, settingFits, hardOf, hardBit, notFinite}
 use Rattle.majority_logic.specs.Claims.{IsWord, Sent, flips, WithinHalf}
-use Rattle.iterative.specs.Iterative.{iterativeVerdict}
+use Rattle.iterative.specs.Iterative.{samplesVerdict, iterativeVerdict}
 use Rattle.iterative_rule.specs.Claims.{wrongBits, SamplesWithinHalf}
 use Rattle.iterative_rule.proofs.FlippingRule.{iterative-rule}
 use Rattle.worked_examples.specs.Calls.{made}
@@ -65,7 +65,7 @@ readme-near = record { sent = sent-00; few = rw one-wrong (omega arith); firm = 
 
 -- no refusal applies to the call
 readme-accepted : iterativeVerdict codeA (readmeSetting 43) readmeBlock 1 7 ≡ accepted
-unfolding codeA readmeSetting readmeBlock seven iterativeVerdict settingFits stepFits notFinite ofBits ofFields odd lt le checkOf listOf sizesFit badEntry badWeight overlapping common weight has entry any first sum same
+unfolding codeA readmeSetting readmeBlock seven iterativeVerdict samplesVerdict settingFits stepFits notFinite ofBits ofFields odd lt le checkOf listOf sizesFit badEntry badWeight overlapping common weight has entry any first sum same
 readme-accepted = refl
 
 pub readme-block : ReadmeBlock 43

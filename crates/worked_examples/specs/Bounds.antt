@@ -25,7 +25,7 @@ use Rattle.parity_check.specs.Code.{Matrix, matrix, entry, has, weight, common,
 use Rattle.parity_check.specs.Check.{sizesFit, badEntry, badWeight, overlapping, listOf, checkOf}
 use Rattle.quantiser.specs.Samples.{Choice, stepFits, settingFits, nearest, magnitude, levelOf, hardOf, hardBit, notFinite}
 use Rattle.iterative.specs.Rounds.{others, extrinsic, levelAfter, roundOf, endOf}
-use Rattle.iterative.specs.Iterative.{startOf, changedIn, changedBits, endFrom, reportAt, iterativeVerdict, iterativeOf, iterativeWord, iterativeLevels}
+use Rattle.iterative.specs.Iterative.{startOf, changedIn, changedBits, endFrom, reportAt, samplesVerdict, iterativeVerdict, iterativeOf, iterativeWord, iterativeLevels}
 use Rattle.iterative_rule.specs.Claims.{roundsFor, Recovered}
 use Rattle.worked_examples.specs.Calls.{Call, decoding, made}
 use Rattle.worked_examples.specs.Table.{codeA, setting, seven, sevenLevels, Row, row, decode, eachMade, eachWanted}
@@ -65,7 +65,7 @@ bounds =
 
 -- the written definitions yield each row
 pub all-bounds : eachMade bounds ≡ eachWanted bounds
-unfolding bounds strong codeC three eachMade eachWanted made codeA setting iterativeOf iterativeVerdict iterativeWord iterativeLevels reportAt endFrom changedBits changedIn startOf endOf roundOf levelAfter extrinsic others settingFits stepFits notFinite hardBit hardOf levelOf magnitude nearest sumℤ ofBits ofFields odd lt le checkOf listOf sizesFit badEntry badWeight overlapping failing fails common weight has entry distance spareSet pack packedByte bitAt listed over any first sum same differ
+unfolding bounds strong codeC three eachMade eachWanted made codeA setting iterativeOf iterativeVerdict samplesVerdict iterativeWord iterativeLevels reportAt endFrom changedBits changedIn startOf endOf roundOf levelAfter extrinsic others settingFits stepFits notFinite hardBit hardOf levelOf magnitude nearest sumℤ ofBits ofFields odd lt le checkOf listOf sizesFit badEntry badWeight overlapping failing fails common weight has entry distance spareSet pack packedByte bitAt listed over any first sum same differ
 all-bounds = refl
 
 -- L / delta + 1: with L = 3 delta is 3 for A and 2 for C; with L = 127 it is 3 for A

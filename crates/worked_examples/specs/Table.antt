@@ -20,12 +20,12 @@ use Rattle.answers.specs.Paper.{Said, refusal, report}
 use Rattle.packed_word.specs.Packed.{bitAt, packedByte, pack, spareSet, distance}
 use Rattle.parity_check.specs.Code.{Matrix, matrix, entry, has, weight, common, fails, failing}
 use Rattle.parity_check.specs.Check.{sizesFit, badEntry, badWeight, overlapping, listOf, checkOf}
-use Rattle.syndrome.specs.Failing.{failingVerdict, failingOf}
+use Rattle.syndrome.specs.Failing.{wordVerdict, failingVerdict, failingOf}
 use Rattle.majority_logic.specs.Voting.{votes, flipped}
 use Rattle.majority_logic.specs.OneStep.{stepWord, stepRounds, oneStepReport, oneStepVerdict, oneStepOf, oneStepWord}
 use Rattle.quantiser.specs.Samples.{Choice, stepFits, settingFits, nearest, magnitude, levelOf, hardOf, hardBit, notFinite}
 use Rattle.iterative.specs.Rounds.{others, extrinsic, levelAfter, roundOf, endOf}
-use Rattle.iterative.specs.Iterative.{startOf, changedIn, changedBits, endFrom, reportAt, iterativeVerdict, iterativeOf, iterativeWord, iterativeLevels}
+use Rattle.iterative.specs.Iterative.{startOf, changedIn, changedBits, endFrom, reportAt, samplesVerdict, iterativeVerdict, iterativeOf, iterativeWord, iterativeLevels}
 use Rattle.worked_examples.specs.Calls.{Call, checking, counting, voting, decoding, Yields, yields, made}
 
 -- n = 7, m = 7, rho = 3, gamma = 3
@@ -104,5 +104,5 @@ eachWanted (r ∷ rs) = r .wanted ∷ eachWanted rs
 
 -- the written definitions yield each row
 pub all-rows : eachMade table ≡ eachWanted table
-unfolding table eachMade eachWanted made codeA codeB setting seven iterativeOf iterativeVerdict iterativeWord iterativeLevels reportAt endFrom changedBits changedIn startOf endOf roundOf levelAfter extrinsic others settingFits stepFits notFinite hardBit hardOf levelOf magnitude nearest sumℤ ofBits ofFields odd lt le checkOf listOf sizesFit badEntry badWeight overlapping failingOf failingVerdict oneStepOf oneStepVerdict oneStepWord oneStepReport stepWord stepRounds flipped votes failing fails common weight has entry distance spareSet pack packedByte bitAt listed over any first sum same differ
+unfolding table eachMade eachWanted made codeA codeB setting seven iterativeOf iterativeVerdict samplesVerdict iterativeWord iterativeLevels reportAt endFrom changedBits changedIn startOf endOf roundOf levelAfter extrinsic others settingFits stepFits notFinite hardBit hardOf levelOf magnitude nearest sumℤ ofBits ofFields odd lt le checkOf listOf sizesFit badEntry badWeight overlapping failingOf failingVerdict wordVerdict oneStepOf oneStepVerdict oneStepWord oneStepReport stepWord stepRounds flipped votes failing fails common weight has entry distance spareSet pack packedByte bitAt listed over any first sum same differ
 all-rows = refl

@@ -1,84 +1,68 @@
--- `one_step::on_accepted` meets its contract: each answer follows the tests that led to it. Assumes nothing.
-use mathlib.Core.Path.{refl, sym, _∙_}
-use mathlib.Core.List.{List}
-use Prim.Native.Nat.{ℕ}
+-- `one_step::on_accepted` meets its contract: a refusal of the received word keeps the buffer, else the vote. Assumes nothing.
+use mathlib.Core.Path.{refl, sym, ap, _∙_}
 use borrow.Author.Needs.{needs}
-use Rattle.answers.specs.Answers.{reportOf}
+use Rattle.answers.specs.Answers.{verdictOf, numberOf, placeOf, reportOf}
 use Rattle.parity_check.specs.Code.{Matrix}
 use Rattle.parity_check.specs.Shapes.{matrixOf}
-use Rattle.one_step.proofs.Answering.{refused-length, refused-room, refused-spare, answered-voted}
+use Rattle.one_step.proofs.Answering.{refused-word, word-lent, answered-voted}
 use Rattle.one_step.proofs.on_accepted.Statement.{statement}
 use Rattle.one_step.proofs.on_accepted.Tie as tie
+
+abbrev asked : tie.After-ask-word → tie.Start
+asked c = c .before .before .before .before .before
+
+abbrev lent-matrix : tie.Start → Matrix
+lent-matrix s = matrixOf (s .args .shape) (s .args .list .now)
 
 cast-n : tie.Need-cast-n
 cast-n c = search needs
 
-add-need : tie.Need-add-need
-add-need c = search needs
+ask-word-requires : tie.Need-ask-word-requires
+ask-word-requires c κs = search needs
 
-returns : tie.Need-returns
-returns c =
-    let s = c .before .before .before .before .before in
-    let H : Matrix = matrixOf (s .args .shape) (s .args .list .now) in
-    let w : List ℕ = s .args .received .now in
-    let old : List ℕ = s .args .word .now in
-    refused-length H (s .pre) w old _ (c .if1 .taken) refl
-
-returns-2 : tie.Need-returns-2
-returns-2 c =
-    let s = c .before .before .before .before .before .before in
-    let H : Matrix = matrixOf (s .args .shape) (s .args .list .now) in
-    let w : List ℕ = s .args .received .now in
-    let old : List ℕ = s .args .word .now in
-    refused-room H (s .pre) w old (c .before .if1 .left) _ (c .if2 .taken) refl
-
-spare-set-requires : tie.Need-spare-set-requires
-spare-set-requires c κs = search needs
-
-returns-3 : tie.Need-returns-3
-returns-3 c =
-    let s = c .before .before .before .before .before .before .before .before in
-    let H : Matrix = matrixOf (s .args .shape) (s .args .list .now) in
-    let w : List ℕ = s .args .received .now in
-    let old : List ℕ = s .args .word .now in
-    refused-spare H (s .pre) w old (c .before .before .before .if1 .left) (c .before .before .if2 .left) _
-    (sym (c .before .spare-set .ensures) ∙ c .if3 .taken) refl
+enum-told : tie.Need-enum-told
+enum-told c = search needs
 
 one-step-accepted-requires : tie.Need-one-step-accepted-requires
 one-step-accepted-requires c κs =
-    let s = c .before .before .before .before .before .before .before .before .before in
-    let e = c .before .before in
-    record {
-      matrix = s .pre;
-      long = e .before .before .if1 .left;
-      spare = sym (e .spare-set .ensures) ∙ c .before .if3 .left;
-      room = e .before .if2 .left;
-    }
+    let t = c .before in
+    let k = t .before .before in
+    let s = asked k in
+    word-lent (lent-matrix s) (s .pre) (s .args .received .now) (s .args .word .now) (sym (k .ask-word .ensures) ∙ ap verdictOf (t .enum-told .given .1))
+
+enum-known-asked : tie.Need-enum-known-asked
+enum-known-asked c = search needs
 
 same-length : tie.Need-same-length
 same-length c = search needs
 
-returns-4 : tie.Need-returns-4
-returns-4 c =
-    let s = c .before .before .before .before .before .before .before .before .before .before .before .before in
-    let H : Matrix = matrixOf (s .args .shape) (s .args .list .now) in
-    let w : List ℕ = s .args .received .now in
-    let old : List ℕ = s .args .word .now in
-    let e = c .before .before .before .before in
-    let r = c .before .before .one-step-accepted in
-    answered-voted H (s .pre) w old (e .before .before .before .if1 .left) (e .before .before .if2 .left) (r .last .1 .1 .1 .0) (reportOf (r .result))
-    (sym (e .before .spare-set .ensures) ∙ e .if3 .left) (r .ensures)
+returns : tie.Need-returns
+returns c =
+    let r = c .before .before in
+    let t = r .before .before in
+    let k = t .before .before in
+    let s = asked k in
+    answered-voted (lent-matrix s) (s .pre) (s .args .received .now) (s .args .word .now) (sym (k .ask-word .ensures) ∙ ap verdictOf (t .enum-told .given .1))
+    (r .one-step-accepted .last .1 .1 .1 .0) (reportOf (r .one-step-accepted .result)) (r .one-step-accepted .ensures)
+
+returns-2 : tie.Need-returns-2
+returns-2 c =
+    let a = c .before in
+    let k = a .before .before in
+    let s = asked k in
+    let f = a .asked .given in
+    refused-word (lent-matrix s) (s .pre) (s .args .received .now) (s .args .word .now) (numberOf (f .0 .0)) (placeOf (f .0 .0)) _
+    (sym (k .ask-word .ensures) ∙ ap verdictOf (f .1)) refl
 
 pub on-accepted-spec : {M : Type 1} → statement M
 on-accepted-spec =
     tie.close
     (tie.spec
     cast-n
-    add-need
-    returns
-    returns-2
-    spare-set-requires
-    returns-3
+    ask-word-requires
+    enum-told
     one-step-accepted-requires
+    enum-known-asked
     same-length
-    returns-4)
+    returns
+    returns-2)

@@ -1,17 +1,19 @@
 -- `session_asking::ask_lent` meets its contract: 7, 9 and 23 are asked in this order. Assumes nothing.
-use mathlib.Core.Path.{_≡_, sym, ap, ap₂, _∙_}
-use mathlib.Core.Bool.{Bool, false}
+use mathlib.Core.Path.{_≡_, sym, ap, _∙_}
+use mathlib.Core.Bool.{Bool}
 use mathlib.Core.List.{List}
 use Prim.Native.Nat.{ℕ}
 use borrow.Author.Needs.{needs}
-use Rattle.answers.specs.Paper.{accepted, refuseWhen, andThen}
-use Rattle.answers.specs.Answers.{verdictOf}
-use Rattle.packed_word.specs.Packed.{spareSet}
+use lib.ListN.{length}
+use Rattle.answers.specs.Paper.{accepted, refuseWhen}
+use Rattle.answers.specs.Answers.{verdictOf, numberOf, placeOf}
 use Rattle.parity_check.specs.Code.{Matrix}
 use Rattle.parity_check.specs.Shapes.{matrixOf}
-use Rattle.session_asking.specs.Asked.{Held, wrongBuffers, beyond}
+use Rattle.syndrome.specs.Failing.{wordVerdict}
+use Rattle.syndrome.proofs.Received.{word-fits}
+use Rattle.session_asking.specs.Asked.{Held, beyond}
 use Rattle.session_asking.specs.Parts.{heldOf, beyondIn}
-use Rattle.session_asking.proofs.Parts.{says-7, says-rest, received-fits, word-fits, levels-fit}
+use Rattle.session_asking.proofs.Parts.{says-word, says-beyond}
 use Rattle.session_asking.proofs.ask_lent.Statement.{statement}
 use Rattle.session_asking.proofs.ask_lent.Tie as tie
 
@@ -24,92 +26,70 @@ received s = s .args .received .now
 abbrev held : tie.Start → Held
 held s = heldOf (s .args .session) (s .args .word .now) (s .args .levels .now)
 
-abbrev asked-lengths : tie.Else1 → tie.Start
-asked-lengths c = c .before .before .before .before .before .before
+abbrev asked : tie.After-ask-word → tie.Start
+asked c = c .before .before .before .before .before .before
 
--- where refusal 7 is passed, the lengths are right
-lengths : (c : tie.Else1) → wrongBuffers (lent-matrix (asked-lengths c)) (received (asked-lengths c)) (held (asked-lengths c)) ≡ false
-unfolding wrongBuffers
-lengths c = sym (c .before .wrong-lengths .ensures) ∙ c .if1 .left
-
--- ---- each refusal by its test
-
-abbrev spare-asked : tie.After-refused-when → tie.Start
-spare-asked c = asked-lengths (c .before .before .before)
-
-says-9 : (c : tie.After-refused-when) → verdictOf (c .refused-when .result) ≡ refuseWhen 9 (spareSet (lent-matrix (spare-asked c) .n) (received (spare-asked c))) accepted
-says-9 c = c .refused-when .ensures ∙ ap (λ (t : Bool). refuseWhen 9 t accepted) (c .before .spare-set .ensures)
-
-abbrev far-asked : tie.After-refused-when2 → tie.Start
-far-asked c = spare-asked (c .before .before)
-
-says-23 : (c : tie.After-refused-when2)
-    → verdictOf (c .refused-when2 .result) ≡ refuseWhen 23 (beyond (lent-matrix (far-asked c)) (held (far-asked c) .rec) (held (far-asked c))) accepted
-unfolding beyond
-says-23 c =
-    let s = far-asked c in
-    c .refused-when2 .ensures
-    ∙ ap (λ (t : Bool). refuseWhen 23 t accepted)
-    (c .before .is-beyond .ensures
-    ∙ ap (λ (L : ℕ). beyondIn (s .args .shape .n) L (s .args .word .now) (s .args .levels .now)) (c .before .before .before .before .middle-of .ensures))
+-- what was asked of the received word
+said : (c : tie.After-ask-word)
+    → let s = asked c in wordVerdict (lent-matrix s .n) (received s) (length (s .args .word .now)) (length (s .args .levels .now)) ≡ verdictOf (c .ask-word .result)
+said c = sym (c .ask-word .ensures)
 
 cast-n : tie.Need-cast-n
 cast-n c = search needs
 
-add-need : tie.Need-add-need
-add-need c = search needs
+largest-of-requires : tie.Need-largest-of-requires
+largest-of-requires c κs = search needs
 
-wrong-lengths-requires : tie.Need-wrong-lengths-requires
-wrong-lengths-requires c κs = search needs
+ask-word-requires : tie.Need-ask-word-requires
+ask-word-requires c κs = search needs
 
-returns : tie.Need-returns
-unfolding wrongBuffers
-returns c =
-    let s = c .before .before .before .before .before .before in
-    says-7 (lent-matrix s) (received s) (held s) (sym (c .before .wrong-lengths .ensures) ∙ c .if1 .taken)
+enum-told : tie.Need-enum-told
+enum-told c = search needs
 
-middle-of-requires : tie.Need-middle-of-requires
-middle-of-requires c κs = search needs
-
-spare-set-requires : tie.Need-spare-set-requires
-spare-set-requires c κs =
-    let s = asked-lengths (c .before) in
-    (received-fits (lent-matrix s) (received s) (held s) (lengths (c .before)), s .pre .0 .sizes .n-most)
+is-beyond-requires : tie.Need-is-beyond-requires
+is-beyond-requires c κs =
+    let k = c .before .before in
+    let s = asked k in
+    let a = s .args in
+    let fit = word-fits (a .shape .n) (received s) (length (a .word .now)) (length (a .levels .now)) (said k ∙ ap verdictOf (c .enum-told .given .1)) in
+    (s .pre .0 .sizes .n-most, fit .1, fit .2)
 
 refused-when-requires : tie.Need-refused-when-requires
 refused-when-requires c κs = search needs
 
-is-beyond-requires : tie.Need-is-beyond-requires
-is-beyond-requires c κs =
-    let e = c .before .before .before in
-    let s = asked-lengths e in
-    (s .pre .0 .sizes .n-most, word-fits (lent-matrix s) (received s) (held s) (lengths e), levels-fit (lent-matrix s) (received s) (held s) (lengths e))
+enum-known-asked : tie.Need-enum-known-asked
+enum-known-asked c = search needs
 
-refused-when-requires-2 : tie.Need-refused-when-requires-2
-refused-when-requires-2 c κs = search needs
-
-and-then-requires : tie.Need-and-then-requires
-and-then-requires c κs = search needs
+returns : tie.Need-returns
+unfolding beyond
+returns c =
+    let t = c .before .before in
+    let k = t .before .before in
+    let s = asked k in
+    let a = s .args in
+    says-beyond (lent-matrix s) (received s) (held s) _ (said k ∙ ap verdictOf (t .enum-told .given .1))
+    (c .refused-when .ensures
+    ∙ ap (λ (t : Bool). refuseWhen 23 t accepted)
+    (c .before .is-beyond .ensures ∙ ap (λ (L : ℕ). beyondIn (a .shape .n) L (a .word .now) (a .levels .now)) (k .before .largest-of .ensures)))
 
 returns-2 : tie.Need-returns-2
 returns-2 c =
-    let f = c .before in
-    let p = f .before .before in
-    let s = far-asked f in
-    says-rest (lent-matrix s) (received s) (held s) _ (lengths (p .before .before .before)) (c .and-then .ensures ∙ ap₂ andThen (says-9 p) (says-23 f))
+    let a = c .before in
+    let k = a .before .before in
+    let s = asked k in
+    let f = a .asked .given in
+    says-word (lent-matrix s) (received s) (held s) (numberOf (f .0 .0)) (placeOf (f .0 .0)) (said k ∙ ap verdictOf (f .1))
 
 pub ask-lent-spec : {M : Type 1} → statement M
 ask-lent-spec =
     tie.close
     (tie.spec
     cast-n
-    add-need
-    wrong-lengths-requires
-    returns
-    middle-of-requires
-    spare-set-requires
-    refused-when-requires
+    largest-of-requires
+    ask-word-requires
+    enum-told
     is-beyond-requires
-    refused-when-requires-2
-    and-then-requires
+    refused-when-requires
+    enum-known-asked
+    returns
     returns-2)

@@ -1,19 +1,18 @@
 -- `session_asking::out_of_range` meets its contract: its tests are the definition's. Assumes nothing.
-use borrow.Author.Tests.{lt-ltb, le-ltb}
+use mathlib.Core.Path.{sym, _∙_}
+use borrow.Author.Needs.{needs}
+use borrow.Author.Tests.{not-true, not-false}
 use Rattle.session_asking.proofs.out_of_range.Statement.{statement}
 use Rattle.session_asking.proofs.out_of_range.Tie as tie
 
+ranges-fit-requires : tie.Need-ranges-fit-requires
+ranges-fit-requires c κs = search needs
+
 returns : tie.Need-returns
-returns c = rw (lt-ltb _ _ (c .if1 .taken))
+returns c = rw (sym (c .before .ranges-fit .ensures) ∙ not-true _ (c .if1 .taken))
 
 returns-2 : tie.Need-returns-2
-returns-2 c = rw (le-ltb _ _ (c .before .if1 .left), lt-ltb _ _ (c .if2 .taken))
-
-returns-3 : tie.Need-returns-3
-returns-3 c = rw (le-ltb _ _ (c .before .before .if1 .left), le-ltb _ _ (c .before .if2 .left), lt-ltb _ _ (c .if3 .taken))
-
-returns-4 : tie.Need-returns-4
-returns-4 c = rw (le-ltb _ _ (c .before .before .if1 .left), le-ltb _ _ (c .before .if2 .left), le-ltb _ _ (c .if3 .left))
+returns-2 c = rw (sym (c .before .ranges-fit .ensures) ∙ not-false _ (c .if1 .left))
 
 pub out-of-range-spec : {M : Type 1} → statement M
-out-of-range-spec = tie.close (tie.spec returns returns-2 returns-3 returns-4)
+out-of-range-spec = tie.close (tie.spec ranges-fit-requires returns returns-2)

@@ -32,8 +32,11 @@ gain-in (FullScale f) t h l = (h, l)
 step-in : (c : tie.After-step-of) → stepFits (c .step-of .result) ≡ true
 step-in c = ap stepFits (c .step-of .ensures) ∙ range (c .before .before .before) .step
 
-top-of-requires : tie.Need-top-of-requires
-top-of-requires c κs = (range c .least, range c .most)
+largest-of-requires : tie.Need-largest-of-requires
+largest-of-requires c κs = (range c .least, range c .most)
+
+cast-top : tie.Need-cast-top
+cast-top c = search needs
 
 gain-by-requires : tie.Need-gain-by-requires
 gain-by-requires c κs = search needs
@@ -48,7 +51,7 @@ returns : tie.Need-returns
 returns c =
     let z = c .before .before .before .before in
     let s = z .args .setting in
-    let t = c .before .before .before .top-of .ensures in
+    let t = c .before .before .before .largest-of .ensures in
     let g = c .before .before .gain-by .ensures ∙ ap (gainBy (s .step)) t in
     let d = c .take-apart .ensures in
     let few = gain-in (s .step) (largest (s .bits)) (largest-some (s .bits) (range z .least)) (largest-most (s .bits) (range z .most)) in
@@ -69,4 +72,4 @@ returns c =
 pub scale-of-spec : {M : Type 1} → statement M
 scale-of-spec =
     tie.close
-    (tie.spec top-of-requires gain-by-requires step-of-requires take-apart-requires returns)
+    (tie.spec largest-of-requires cast-top gain-by-requires step-of-requires take-apart-requires returns)
