@@ -1,10 +1,8 @@
 //! The library's times as ratios to a hand-optimised form in Rust, and the literal form's.
 //!
 //! CPU time of one call, the forms taking turns in the same run, the best of many turns. The
-//! number of turns can be given as an argument. With the feature `program` the program's times
-//! follow in a second table.
+//! number of turns can be given as an argument. The program's times follow in a second table.
 
-#[cfg(feature = "program")]
 mod programs;
 
 use bench::clock::cpu_microseconds;
@@ -15,6 +13,7 @@ use generator::{patterns, Codewords, Random};
 use reference::{byte_count, pack};
 use std::hint::black_box;
 
+// In an archive of its own, libffi_bench.a, which no user links.
 extern "C" {
     fn mlgd_one_step_accepted(
         n: u16,
@@ -205,6 +204,5 @@ fn main() {
         measure_check(&code, turns);
         measure_one_step(&code, turns);
     }
-    #[cfg(feature = "program")]
     programs::measure(turns.div_ceil(5));
 }

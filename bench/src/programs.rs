@@ -108,7 +108,7 @@ fn beside(name: &str) -> PathBuf {
     let path = here.with_file_name(name);
     assert!(
         path.exists(),
-        "{name} is missing: run `cargo build --release -p bench --features program` first"
+        "{name} is missing: run `cargo build --release -p bench --features measure` first"
     );
     path
 }
