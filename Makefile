@@ -20,8 +20,10 @@ test: tools
 	cargo test --release --workspace
 	rt ci
 
+# One archive more: the core of one-step voting, which nobody but the benchmark links.
 bench: tools staticlib decode
-	cargo build --release --quiet -p bench --features program
+	rt staticlib ffi_bench
+	cargo build --release --quiet -p bench --features measure
 	build/release/bench
 
 # The differential tests with N times as many random inputs.

@@ -1,6 +1,8 @@
-//! The benchmark's parts: a hand-optimised decoder in Rust to measure the library and the program
+//! The benchmark's parts: hand-optimised decoders in Rust to measure the library and the program
 //! against, and the clock. The literal form is the reference decoder.
 
 pub mod accumulate;
 pub mod clock;
+pub mod incremental;
 pub mod optimised;
+pub mod whole;

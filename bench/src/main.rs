@@ -1,10 +1,9 @@
 //! The library's times as ratios to a hand-optimised form in Rust, and the literal form's.
 //!
-//! CPU time of one call, the forms taking turns in the same run, the best of many turns. The
-//! number of turns can be given as an argument. With the feature `program` the program's times
-//! follow in a second table.
+//! CPU time of one call, the forms taking turns in the same run, the best of many turns: 300, or as
+//! many as the argument says, and a fifth of that for the programs, whose times follow in a second
+//! table. Above each table stands what was done.
 
-#[cfg(feature = "program")]
 mod programs;
 
 use bench::clock::cpu_microseconds;
@@ -15,6 +14,7 @@ use generator::{patterns, Codewords, Random};
 use reference::{byte_count, pack};
 use std::hint::black_box;
 
+// In an archive of its own, libffi_bench.a, which no user links.
 extern "C" {
     fn mlgd_one_step_accepted(
         n: u16,
@@ -82,7 +82,9 @@ impl<'a> Form<'a> {
     }
 }
 
-/// The literal form is slow, and five turns of it are enough.
+/// The literal form is slow, and this many turns of it are enough.
+const LITERAL_TURNS: usize = 5;
+
 fn take_turns(turns: usize, library: &mut Form, optimised: &mut Form, literal: &mut Form) {
     for turn in 0..turns {
         if turn % 2 == 0 {
@@ -92,7 +94,7 @@ fn take_turns(turns: usize, library: &mut Form, optimised: &mut Form, literal: &
             optimised.turn();
             library.turn();
         }
-        if turn % turns.div_ceil(5) == 0 {
+        if turn % turns.div_ceil(LITERAL_TURNS) == 0 {
             literal.turn();
         }
     }
@@ -143,8 +145,10 @@ fn received_words(code: &Code, count: usize) -> Vec<Vec<u8>> {
         .collect()
 }
 
+/// Received words that one-step voting is measured on.
+const WORDS: usize = 16;
+
 fn measure_one_step(code: &Code, turns: usize) {
-    const WORDS: usize = 16;
     let h = &code.matrix;
     let words = received_words(code, WORDS);
     let needed = byte_count(h.n);
@@ -195,16 +199,25 @@ fn measure_one_step(code: &Code, turns: usize) {
     print_row(code, "one-step voting", &library, &optimised, &literal);
 }
 
+/// A program's run takes longer than a turn of the library: so many times fewer of them.
+const PROGRAM_SHARE: usize = 5;
+
 fn main() {
     let turns = std::env::args().nth(1).map_or(300, |turns| {
         turns.parse().expect("the number of turns is a number")
     });
+    println!(
+        "Matrix check and one-step voting, CPU time of a call. Library and optimised form take turns, \
+         and the best of {turns} turns of each counts; a turn is the mean of one call (one-step \
+         voting: of {WORDS}, on as many words), or of as many times that as take a millisecond. \
+         Literal form: the best of {LITERAL_TURNS} turns, of one call or of a millisecond."
+    );
+    println!();
     println!("| code | part | library / optimised | literal / optimised | library µs | optimised µs | literal µs |");
     println!("|---|---|---|---|---|---|---|");
     for code in [codes::eg1023(), codes::qc961(), codes::tanner155()] {
         measure_check(&code, turns);
         measure_one_step(&code, turns);
     }
-    #[cfg(feature = "program")]
-    programs::measure(turns.div_ceil(5));
+    programs::measure(turns.div_ceil(PROGRAM_SHARE));
 }

@@ -1,7 +1,8 @@
-//! The program on 200 blocks, against a hand-optimised one and the literal one in Rust.
+//! The program on no block, on 200 and on 4,000, against hand-optimised ones and the literal one in
+//! Rust.
 //!
 //! CPU time of the child, user's and system's, with its start; the programs take turns, and the
-//! best of many turns counts. DECODE names another program than target/bin/decode, from the
+//! best of many runs counts. DECODE names another program than target/bin/decode, from the
 //! workspace's root on.
 
 use bench::clock::children_microseconds;
@@ -11,9 +12,12 @@ use std::fs::{self, File};
 use std::path::{Path, PathBuf};
 use std::process::{Command, Stdio};
 
-const BLOCKS: usize = 200;
-/// The literal form is slow: its time is taken on fewer blocks.
+/// How many of the blocks a row of the table is about.
+const BLOCKS: [usize; 3] = [0, 200, MOST];
+const MOST: usize = 4000;
+/// The literal form is slow: its time is taken on fewer blocks, the first ones.
 const LITERAL_BLOCKS: usize = 5;
+const LITERAL_RUNS: usize = 8;
 
 /// A code with the step and the noise at which about five rounds are needed.
 fn cases() -> [(Code, f32, f64); 3] {
@@ -24,11 +28,11 @@ fn cases() -> [(Code, f32, f64); 3] {
     ]
 }
 
-/// The input of the first `count` blocks, width 8, limit 30.
-fn input(code: &Code, step: f32, deviation: f64, count: usize) -> Vec<u8> {
+/// The input of all blocks, width 8, limit 30.
+fn input(code: &Code, step: f32, deviation: f64) -> Vec<u8> {
     let mut random = Random::new(1);
     let codewords = Codewords::of(&code.matrix);
-    let blocks: Vec<Vec<f32>> = (0..count)
+    let blocks: Vec<Vec<f32>> = (0..MOST)
         .map(|_| {
             let sent = codewords.random(&mut random);
             noise::received(&sent, deviation, &mut random)
@@ -77,29 +81,43 @@ fn time(program: &Path, input: &Stored) -> f64 {
     (children_microseconds() - start) / 1e3
 }
 
-/// A run under so many milliseconds is measured in more turns: the start of a process varies by as
-/// much as a short run takes.
-const SHORT: f64 = 16.0;
+/// Short runs are measured more often and long ones less: the start of a process varies by as much
+/// as a short run takes. A run of the program of so many milliseconds has the number of turns
+/// that was asked for.
+const USUAL: f64 = 16.0;
 
-/// The best times of the first two programs, taking turns.
-fn best_times(turns: usize, programs: [&Path; 2], input: &Stored) -> [f64; 2] {
-    let mut best = [f64::INFINITY; 2];
-    let more = (SHORT / time(programs[0], input)).max(1.0);
-    for turn in 0..(turns as f64 * more) as usize {
-        for at in [turn % 2, 1 - turn % 2] {
+/// The best times of four programs, taking turns, and how often each was run.
+fn best_times(turns: usize, programs: [&Path; 4], input: &Stored) -> ([f64; 4], usize) {
+    let mut best = [f64::INFINITY; 4];
+    let more = (USUAL / time(programs[0], input)).max(0.25);
+    let runs = (turns as f64 * more).ceil() as usize;
+    for run in 0..runs {
+        for at in 0..4 {
+            let at = (at + run) % 4;
             best[at] = best[at].min(time(programs[at], input));
+        }
+    }
+    (best, runs)
+}
+
+/// The best times of the literal program on no block and on a few, taking turns.
+fn literal_times(program: &Path, inputs: [&Stored; 2]) -> [f64; 2] {
+    let mut best = [f64::INFINITY; 2];
+    for _ in 0..LITERAL_RUNS {
+        for (best, input) in best.iter_mut().zip(inputs) {
+            *best = best.min(time(program, input));
         }
     }
     best
 }
 
-/// The mean of the third field, the rounds.
-fn mean_rounds(printed: &str) -> f64 {
-    let rounds = printed.lines().skip(1).map(|line| {
+/// The mean of the third field, the rounds, of the first blocks.
+fn mean_rounds(printed: &str, blocks: usize) -> f64 {
+    let rounds = printed.lines().skip(1).take(blocks).map(|line| {
         let field = line.split(' ').nth(2).expect("a block's line");
         field.parse::<f64>().expect("rounds")
     });
-    rounds.sum::<f64>() / BLOCKS as f64
+    rounds.sum::<f64>() / blocks as f64
 }
 
 /// The programs in Rust stand beside this one.
@@ -108,7 +126,7 @@ fn beside(name: &str) -> PathBuf {
     let path = here.with_file_name(name);
     assert!(
         path.exists(),
-        "{name} is missing: run `cargo build --release -p bench --features program` first"
+        "{name} is missing: run `cargo build --release -p bench --features measure` first"
     );
     path
 }
@@ -126,36 +144,62 @@ fn decode() -> PathBuf {
 }
 
 pub fn measure(turns: usize) {
-    let (program, optimised, literal) = (decode(), beside("bench_decode"), beside("bench_literal"));
+    let program = decode();
+    let [accumulate, bytes, bits, literal] = [
+        "bench_decode",
+        "bench_incremental",
+        "bench_incremental_bits",
+        "bench_literal",
+    ]
+    .map(beside);
     println!();
-    println!("| code | part | rounds | program / optimised | literal / optimised | program ms | optimised ms | literal ms |");
-    println!("|---|---|---|---|---|---|---|---|");
+    println!(
+        "Programs, each run a process of its own, CPU time with its start. The program and the three \
+         hand-optimised forms (accumulate; incremental, with a byte or with a bit a parity) take \
+         turns, and the best counts of as many runs of each as the column `runs` says: {turns} where \
+         a run of the program takes {USUAL} ms, more where it is shorter, fewer where it is longer, \
+         and a fourth of {turns} at least. Literal form: no block, the best of {LITERAL_RUNS} runs; \
+         200 and 4,000 blocks NOT measured but extrapolated, from the best of {LITERAL_RUNS} runs on \
+         the first {LITERAL_BLOCKS} blocks, whose rounds the last column has."
+    );
+    println!();
+    println!("| code | blocks | rounds | runs | program / accumulate | program / incremental, bytes | program / incremental, bits | literal / accumulate | program ms | accumulate ms | incremental, bytes ms | incremental, bits ms | literal ms (from {LITERAL_BLOCKS} blocks) | rounds of these |");
+    println!("|---|---|---|---|---|---|---|---|---|---|---|---|---|---|");
     for (code, step, deviation) in cases() {
-        let stored = |count| {
+        let whole = input(&code, step, deviation);
+        let block = 4 * usize::from(code.matrix.n);
+        let stored = |count: usize| {
             let name = format!("{}-{count}", code.name);
-            Stored::new(&name, &input(&code, step, deviation, count))
+            Stored::new(&name, &whole[..whole.len() - (MOST - count) * block])
         };
-        let (none, few, all) = (stored(0), stored(LITERAL_BLOCKS), stored(BLOCKS));
 
-        let expected = printed(&optimised, &all);
-        assert_eq!(printed(&program, &all), expected, "{}", code.name);
+        let all = stored(MOST);
+        let expected = printed(&accumulate, &all);
+        for other in [&program, &bytes, &bits] {
+            assert!(printed(other, &all) == expected, "{}", other.display());
+        }
+        let few = stored(LITERAL_BLOCKS);
         assert!(expected.starts_with(&printed(&literal, &few)));
 
-        let literal_none = time(&literal, &none).min(time(&literal, &none));
-        let literal_few = time(&literal, &few).min(time(&literal, &few));
+        let [literal_none, literal_few] = literal_times(&literal, [&stored(0), &few]);
         let for_each = (literal_few - literal_none) / LITERAL_BLOCKS as f64;
-        let literal_all = literal_none + for_each * BLOCKS as f64;
-        let rounds = mean_rounds(&expected);
-        for (part, input, by_literal) in [
-            ("no block", &none, literal_none),
-            ("200 blocks", &all, literal_all),
-        ] {
-            let [by_program, by_optimised] = best_times(turns, [&program, &optimised], input);
+        let few_rounds = mean_rounds(&expected, LITERAL_BLOCKS);
+        for blocks in BLOCKS {
+            let forms = [&program, &accumulate, &bytes, &bits].map(PathBuf::as_path);
+            let (best, runs) = best_times(turns, forms, &stored(blocks));
+            let [by_program, by_accumulate, by_bytes, by_bits] = best;
+            let by_literal = literal_none + for_each * blocks as f64;
+            let rounds = match blocks {
+                0 => "none".to_string(),
+                _ => format!("{:.1}", mean_rounds(&expected, blocks)),
+            };
             println!(
-                "| {} | {part} | {rounds:.1} | {:.2} | {:.1} | {by_program:.2} | {by_optimised:.2} | {by_literal:.1} |",
+                "| {} | {blocks} | {rounds} | {runs} | {:.2} | {:.2} | {:.2} | {:.1} | {by_program:.2} | {by_accumulate:.2} | {by_bytes:.2} | {by_bits:.2} | {by_literal:.1} | {few_rounds:.1} |",
                 code.name,
-                by_program / by_optimised,
-                by_literal / by_optimised,
+                by_program / by_accumulate,
+                by_program / by_bytes,
+                by_program / by_bits,
+                by_literal / by_accumulate,
             );
         }
     }

@@ -1,6 +1,5 @@
 // Exported functions for tests and benchmarks: each answer is one number of 64 bits.
 // Rests on every decoder and on `codes`. Design, section 4: the test face.
-use answers::Answer;
 use codes::RECORD_CELLS;
 use codes::answer_code;
 use codes::checked_code;
@@ -12,13 +11,10 @@ use parity_check::Shape;
 ghost use mathlib.Core.Path.{_≡_};
 ghost use lib.ListN.{length};
 ghost use Rattle.answers.specs.Paper.{report, after, written};
-ghost use Rattle.counting.specs.Lists.{over};
-ghost use Rattle.packed_word.specs.Packed.{bitAt};
 ghost use Rattle.parity_check.specs.Code.{matrix};
 ghost use Rattle.parity_check.specs.Check.{checkOf};
 ghost use Rattle.syndrome.specs.Failing.{failingOf};
-ghost use Rattle.majority_logic.specs.OneStep.{oneStepReport, oneStepVerdict, oneStepOf, oneStepWord};
-ghost use Rattle.one_step.specs.Stepped.{Lent};
+ghost use Rattle.majority_logic.specs.OneStep.{oneStepVerdict, oneStepOf, oneStepWord};
 ghost use Rattle.session_asking.specs.Asked.{lent};
 ghost use Rattle.session_steps.specs.Steps.{openOf, stepOf};
 ghost use Rattle.codes.specs.Codes.{codeOf};
@@ -171,24 +167,4 @@ pub extern "C" fn mlgd_step(
     let s = session_in(cells);
     let turn = record_step::step_copy(s, shape, list, received, word, levels);
     turn_code(turn, cells)
-}
-
-// One-step voting on a matrix that the check has accepted, a word and a buffer that suit it: for the benchmark alone, which asks `mlgd_check` first.
-#[no_mangle]
-pub extern "C" fn mlgd_one_step_accepted(
-    n: u16,
-    m: u16,
-    rho: u16,
-    gamma: u16,
-    list: &[u16],
-    received: &[u8],
-    word: &mut [u8],
-) -> u64
-    requires { ⌜ Lent (matrix n m rho gamma (now list)) (now received) (now word) ⌝ }
-    ensures answer { λ r. ⌜ r ≡ codeOf (oneStepReport (matrix n m rho gamma (now (list .entry))) (bitAt (now (received .entry)))) ⌝ }
-    ensures word { λ r. ⌜ now (word .exit) ≡ over (oneStepWord (matrix n m rho gamma (now (list .entry))) (now (received .entry))) (now (word .entry)) ⌝ }
-{
-    let shape = Shape { n, m, rho, gamma };
-    let p = one_step::one_step_accepted(shape, list, received, word);
-    answer_code(Answer::Done(p))
 }

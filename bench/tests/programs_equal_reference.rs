@@ -1,20 +1,62 @@
-//! The hand-optimised program prints what the reference prints.
+//! The hand-optimised programs print what the reference prints, byte for byte.
 
-use bench::accumulate;
+use bench::accumulate::Accumulate;
+use bench::incremental::{Bits, Bytes, Incremental};
+use bench::whole::{program, Rounds};
 use generator::codes;
-use generator::{inputs, settings, stream, Random};
+use generator::{inputs, noise, settings, stream, Codewords, Random};
 use reference::{largest_level, Setting};
 use std::io::Read;
 
+fn printed<R: Rounds>(input: impl Read) -> Vec<u8> {
+    let mut printed = Vec::new();
+    program::<R>(input, &mut printed);
+    printed
+}
+
 fn compare(inputs: Vec<inputs::Named>) {
     for (name, input) in inputs {
-        let printed = accumulate::program(&input[..]);
         let expected = reference::program(&input);
-        assert_eq!(
-            String::from_utf8_lossy(&printed),
-            String::from_utf8_lossy(&expected),
-            "{name}"
-        );
+        let expected = String::from_utf8_lossy(&expected);
+        for printed in [
+            printed::<Accumulate>(&input[..]),
+            printed::<Incremental<Bytes>>(&input[..]),
+            printed::<Incremental<Bits>>(&input[..]),
+        ] {
+            assert_eq!(String::from_utf8_lossy(&printed), expected, "{name}");
+        }
+    }
+}
+
+/// Codes of every number of words of rows, weights of 2 to 32, noise that needs a few rounds, that
+/// needs many and that is too much.
+#[test]
+fn blocks_by_chance() {
+    let mut random = Random::new(26);
+    let codes = [
+        codes::tanner155(),
+        codes::array_code(5, 3, 4),
+        codes::array_code(17, 16, 4),
+        codes::array_code(341, 3, 3),
+        codes::grid(16),
+        codes::complete_graph(12).transposed(),
+        codes::cycle(1023),
+        codes::qc961(),
+        codes::eg1023(),
+    ];
+    for code in &codes {
+        // The literal form is slow.
+        let large = code.matrix.n > 300;
+        for deviation in [0.4, 0.5, 0.55, 0.6, 0.8] {
+            let limit = if large { 6 } else { 30 };
+            let setting = settings::level_step(8, limit, *random.pick(&[0.015, 0.025, 0.1]));
+            let codewords = Codewords::of(&code.matrix);
+            let blocks: Vec<Vec<f32>> = (0..if large { 2 } else { 20 })
+                .map(|_| noise::received(&codewords.random(&mut random), deviation, &mut random))
+                .collect();
+            let input = stream::input(&code.matrix, &setting, &blocks);
+            compare(vec![(format!("{}, {deviation}", code.name), input)]);
+        }
     }
 }
 
@@ -76,9 +118,9 @@ impl Read for Pieces<'_> {
 #[test]
 fn input_in_pieces() {
     for (name, input) in inputs::whole_runs(&mut Random::new(25)) {
-        let expected = accumulate::program(&input[..]);
+        let expected = printed::<Accumulate>(&input[..]);
         for size in [1, 7, 4096] {
-            let printed = accumulate::program(Pieces(&input, size));
+            let printed = printed::<Accumulate>(Pieces(&input, size));
             assert!(printed == expected, "{name} in pieces of {size}");
         }
     }

@@ -1,12 +1,12 @@
--- `ffi::mlgd_one_step_accepted` meets its contract: the code of the core's report, and the word that it writes. Assumes nothing.
+-- `ffi_bench::mlgd_one_step_accepted` meets its contract: the code of the core's report, and the word that it writes. Assumes nothing.
 use mathlib.Core.Path.{sym, ap, subst, _∙_}
 use Rattle.packed_word.specs.Packed.{bitAt}
 use Rattle.parity_check.specs.Code.{matrix}
 use Rattle.codes.specs.Codes.{codeOf, Small}
 use Rattle.ffi.proofs.Bounds.{report-small}
 use borrow.Author.Needs.{needs}
-use Rattle.ffi.proofs.mlgd_one_step_accepted.Statement.{statement}
-use Rattle.ffi.proofs.mlgd_one_step_accepted.Tie as tie
+use Rattle.ffi_bench.proofs.mlgd_one_step_accepted.Statement.{statement}
+use Rattle.ffi_bench.proofs.mlgd_one_step_accepted.Tie as tie
 
 one-step-accepted-requires : tie.Need-one-step-accepted-requires
 one-step-accepted-requires c κs = search needs

@@ -1,0 +1,33 @@
+// The core of one-step voting as an exported function, for the benchmark alone, which asks `mlgd_check` first.
+// An archive of its own: it is the one exported function with a `requires`, and no user links it.
+// Rests on `one_step`, on `codes`, and for one law on `ffi`. Design, section 4: the test face.
+use answers::Answer;
+use codes::answer_code;
+use parity_check::Shape;
+ghost use mathlib.Core.Path.{_≡_};
+ghost use Rattle.counting.specs.Lists.{over};
+ghost use Rattle.packed_word.specs.Packed.{bitAt};
+ghost use Rattle.parity_check.specs.Code.{matrix};
+ghost use Rattle.majority_logic.specs.OneStep.{oneStepReport, oneStepWord};
+ghost use Rattle.one_step.specs.Stepped.{Lent};
+ghost use Rattle.codes.specs.Codes.{codeOf};
+
+// One-step voting on an accepted matrix, a word and a buffer that suit it.
+#[no_mangle]
+pub extern "C" fn mlgd_one_step_accepted(
+    n: u16,
+    m: u16,
+    rho: u16,
+    gamma: u16,
+    list: &[u16],
+    received: &[u8],
+    word: &mut [u8],
+) -> u64
+    requires { ⌜ Lent (matrix n m rho gamma (now list)) (now received) (now word) ⌝ }
+    ensures answer { λ r. ⌜ r ≡ codeOf (oneStepReport (matrix n m rho gamma (now (list .entry))) (bitAt (now (received .entry)))) ⌝ }
+    ensures word { λ r. ⌜ now (word .exit) ≡ over (oneStepWord (matrix n m rho gamma (now (list .entry))) (now (received .entry))) (now (word .entry)) ⌝ }
+{
+    let shape = Shape { n, m, rho, gamma };
+    let p = one_step::one_step_accepted(shape, list, received, word);
+    answer_code(Answer::Done(p))
+}
