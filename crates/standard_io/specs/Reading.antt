@@ -8,7 +8,7 @@ use mathlib.Core.List.{List}
 use Prim.Native.Nat.{ℕ, _*_}
 use lib.ListN.{length}
 use Rattle.counting.specs.Lists.{over}
-use Rattle.input.specs.Input.{entriesIn}
+use Rattle.byte_numbers.specs.Numbers.{entriesIn}
 
 pub record Filled (c : ℕ) (old new : List ℕ) : Type 0 where
   pub bytes : List ℕ

@@ -1,5 +1,5 @@
 // Standard input and output, by way of lent buffers.
-// Rests on `input`, and on `io` and `libc`, whose contracts say nothing of the bytes that come and go.
+// Rests on `byte_numbers`, and on `io` and `libc`, whose contracts say nothing of the bytes that come and go.
 // Document 01: "Worked by hand", the paragraph on the program.
 use libc::STDIN_FILENO;
 use libc::STDOUT_FILENO;
@@ -29,7 +29,7 @@ pub fn read_list(list: &mut [u16], count: usize) -> bool
     if got < want {
         return false;
     }
-    input::entries(&bytes[..got], list);
+    byte_numbers::entries(&bytes[..got], list);
     true
 }
 

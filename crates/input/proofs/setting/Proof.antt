@@ -8,9 +8,10 @@ use lib.Ieee.{binary32, ofBits}
 use lib.Ieee.Scale.{finite}
 use Rattle.quantiser.specs.Settings.{kindOf, stepOf}
 use Rattle.quantiser.specs.Samples.{settingFits}
-use Rattle.input.specs.Input.{float, choiceIn}
+use Rattle.byte_numbers.specs.Numbers.{float}
+use Rattle.byte_numbers.proofs.Patterns.{no-nan}
+use Rattle.input.specs.Input.{choiceIn}
 use Rattle.input.specs.Opening.{openWith}
-use Rattle.input.proofs.Patterns.{no-nan}
 use Rattle.input.proofs.Settings.{choice, choice-is, kind-unfit, float-unfit, begins-refused, begins-ready}
 use Rattle.input.proofs.setting.Statement.{statement}
 use Rattle.input.proofs.setting.Tie as tie

@@ -1,10 +1,10 @@
--- `input::number16` meets its contract. Assumes nothing.
+-- `byte_numbers::number16` meets its contract. Assumes nothing.
 use mathlib.Core.Path.{ap₂}
 use Prim.Native.Nat.{ℕ, _+_, _*_}
 use borrow.Author.Needs.{needs}
-use Rattle.input.specs.Input.{number16}
-use Rattle.input.proofs.number16.Statement.{statement}
-use Rattle.input.proofs.number16.Tie as tie
+use Rattle.byte_numbers.specs.Numbers.{number16}
+use Rattle.byte_numbers.proofs.number16.Statement.{statement}
+use Rattle.byte_numbers.proofs.number16.Tie as tie
 
 shared-slice-read-wide : tie.Need-shared-slice-read-wide
 shared-slice-read-wide c = search needs

@@ -1,13 +1,13 @@
--- `input::entries` meets its contract. The invariant: the first i entries are written over the array. Assumes nothing.
+-- `byte_numbers::entries` meets its contract. The invariant: the first i entries are written over the array. Assumes nothing.
 use mathlib.Core.Path.{_≡_, sym, ap, _∙_}
 use Prim.Native.Nat.{ℕ, _-_, _/_, _≤_, _<_}
 use native.Mathlib.Omega.{arith}
 use lib.ListN.{length}
 use Rattle.counting.specs.Lists.{listed, over}
 use Rattle.counting.proofs.Writing.{over-none, over-step, over-long}
-use Rattle.input.specs.Input.{entryIn, entriesIn}
-use Rattle.input.proofs.entries.Statement.{statement}
-use Rattle.input.proofs.entries.Tie as tie
+use Rattle.byte_numbers.specs.Numbers.{entryIn, entriesIn}
+use Rattle.byte_numbers.proofs.entries.Statement.{statement}
+use Rattle.byte_numbers.proofs.entries.Tie as tie
 
 abbrev Inv-loop : tie.InvT-loop
 Inv-loop bytes list₀ count i₀ list i = (i ≤ count) × (list ≡ over (listed i (entryIn bytes)) list₀)

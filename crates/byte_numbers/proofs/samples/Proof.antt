@@ -1,4 +1,4 @@
--- `input::samples` meets its contract. The invariant: the first i samples are finite, and written over the array. Assumes nothing.
+-- `byte_numbers::samples` meets its contract. The invariant: the first i samples are finite, and written over the array. Assumes nothing.
 use mathlib.Core.Path.{_≡_, sym, ap, ap₂, _∙_}
 use mathlib.Core.Bool.{true, false, not, _||_}
 use Prim.Native.Nat.{_-_, _/_, _≤_, _<_}
@@ -10,15 +10,14 @@ use Rattle.counting.specs.Lists.{listed, over}
 use Rattle.counting.proofs.Writing.{over-none, over-step, over-long}
 use Rattle.counting.specs.Search.{any}
 use Rattle.counting.proofs.Searches.{any-none, any-step, any-clear, first-none, first-at}
-use Rattle.quantiser.specs.Samples.{notFinite}
-use Rattle.input.specs.Input.{sampleIn, samplesIn}
-use Rattle.input.proofs.Patterns.{no-nan}
-use Rattle.input.proofs.Sampling.{length-samples, sample-of, not-finite-at}
-use Rattle.input.proofs.samples.Statement.{statement}
-use Rattle.input.proofs.samples.Tie as tie
+use Rattle.byte_numbers.specs.Numbers.{sampleIn, notFiniteIn}
+use Rattle.byte_numbers.proofs.Patterns.{no-nan}
+use Rattle.byte_numbers.proofs.Floats.{sample-of, not-finite-at}
+use Rattle.byte_numbers.proofs.samples.Statement.{statement}
+use Rattle.byte_numbers.proofs.samples.Tie as tie
 
 abbrev Inv-loop : tie.InvT-loop
-Inv-loop bytes xs₀ count i₀ xs i = (i ≤ count) × (any (notFinite (samplesIn bytes)) i ≡ false) × (xs ≡ over (listed i (sampleIn bytes)) xs₀)
+Inv-loop bytes xs₀ count i₀ xs i = (i ≤ count) × (any (notFiniteIn bytes) i ≡ false) × (xs ≡ over (listed i (sampleIn bytes)) xs₀)
 
 abbrev μ-loop : tie.MeasureT-loop
 μ-loop bytes xs₀ count i₀ xs i = count - i
@@ -45,12 +44,13 @@ returns : tie.Need-returns Inv-loop μ-loop
 returns c =
     let l = c .before .before .before .before in
     let bs = l .before .before .before .args .bytes .now in
-    let t = notFinite (samplesIn bs) in
+    let t = notFiniteIn bs in
     let h : l .loop .i < length bs / 4 = c .before .before .before .loop-test .taken in
     let off : t (l .loop .i) ≡ true =
-    not-finite-at bs (l .loop .i) (c .before .before .number32 .result) h (c .before .before .number32 .ensures) ∙ sym (ap not (c .before .finite-pattern .ensures)) ∙ c .if1 .taken in
+    not-finite-at bs (l .loop .i) (c .before .before .number32 .result) (c .before .before .number32 .ensures)
+    ∙ sym (ap not (c .before .finite-pattern .ensures)) ∙ c .if1 .taken in
     record {
-      place = sym (first-at t (length (samplesIn bs)) (l .loop .i) (omega (arith, length-samples bs)) (any-clear t (l .loop .i) (l .loop .inv .1)) off);
+      place = sym (first-at t (length bs / 4) (l .loop .i) h (any-clear t (l .loop .i) (l .loop .inv .1)) off);
       cells = l .loop .inv .2;
     }
 
@@ -77,12 +77,11 @@ loop-again c =
     let l = c .before .before .before .before in
     let s = l .before .before .before in
     let bs = s .args .bytes .now in
-    let t = notFinite (samplesIn bs) in
+    let t = notFiniteIn bs in
     let p = c .before .before .number32 .result in
     let e = c .before .before .number32 .ensures in
-    let h : l .loop .i < length bs / 4 = c .before .before .before .loop-test .taken in
     let room : l .loop .i < length (s .args .xs .now) = omega arith in
-    let on : t (l .loop .i) ≡ false = not-finite-at bs (l .loop .i) p h e ∙ sym (ap not (c .before .finite-pattern .ensures)) ∙ c .if1 .left in (
+    let on : t (l .loop .i) ≡ false = not-finite-at bs (l .loop .i) p e ∙ sym (ap not (c .before .finite-pattern .ensures)) ∙ c .if1 .left in (
       omega arith,
       any-step t (l .loop .i) ∙ ap₂ _||_ (l .loop .inv .1) on,
       over-step (l .loop .i) (sampleIn bs) (s .args .xs .now) (l .loop .xs) (l .loop .inv .2) (ofBits binary32 p) room (sample-of bs (l .loop .i) p e),
@@ -98,10 +97,10 @@ returns-2 : tie.Need-returns-2 Inv-loop μ-loop
 returns-2 c =
     let l = c .before in
     let bs = l .before .before .before .args .bytes .now in
-    let t = notFinite (samplesIn bs) in
-    let all : l .loop .i ≡ length (samplesIn bs) = omega (arith, length-samples bs) in
+    let t = notFiniteIn bs in
+    let all : l .loop .i ≡ length bs / 4 = omega arith in
     record {
-      place = all ∙ sym (first-none t (length (samplesIn bs)) (λ j h. any-clear t (l .loop .i) (l .loop .inv .1) j (omega arith)));
+      place = all ∙ sym (first-none t (length bs / 4) (λ j h. any-clear t (l .loop .i) (l .loop .inv .1) j (omega arith)));
       cells = l .loop .inv .2;
     }
 

@@ -1,12 +1,14 @@
--- Laws of bit patterns: which are finite floats, and that a step that is not finite is out of range. Assumes nothing.
+-- Laws of bit patterns: which are those of finite floats.
+--   finite-pattern   == unless the exponent's field is all ones
+--   no-nan           == and then the pattern is no NaN's
+-- Assumes nothing.
 use mathlib.Core.Path.{_≡_, refl, sym, _∙_}
 use mathlib.Core.Bool.{Bool, true, false, not, cond, _&&_}
 use Prim.Native.Nat.{ℕ, zero, suc, _+_, _%_, _/_}
 use lib.Dec.{T, eqb}
-use lib.Ieee.{Float, nan, inf, fin, binary32, odd, ofFields, ofBits, nanBits, lt, eq, le}
+use lib.Ieee.{nan, inf, binary32, odd, ofFields, ofBits, nanBits}
 use lib.Ieee.Scale.{finite}
 use Rattle.counting.proofs.Searches.{never}
-use Rattle.quantiser.specs.Samples.{stepFits}
 
 finite-odd : (d : ℕ) (s : Bool) (q k l : ℕ) → finite (odd d s q k l) ≡ true
 unfolding odd
@@ -37,11 +39,3 @@ no-nan p e = go (eqb (p % 2147483648 / 8388608) 255) (eqb (p % 8388608) 0) (sym 
     go : (a b : Bool) → not a ≡ true → T (not (a && not b))
     go true b h = absurd (never (sym h))
     go false b h = tt
-
--- a step that is not finite is out of range
-pub step-unfit : (x : Float) → finite x ≡ false → stepFits x ≡ false
-unfolding stepFits le lt eq
-step-unfit nan h = refl
-step-unfit (inf true) h = refl
-step-unfit (inf false) h = refl
-step-unfit (fin s m e) h = absurd (never h)

@@ -1,10 +1,10 @@
--- `input::number32` meets its contract. Assumes nothing.
+-- `byte_numbers::number32` meets its contract. Assumes nothing.
 use mathlib.Core.Path.{ap₂}
 use Prim.Native.Nat.{ℕ, _+_, _*_}
 use borrow.Author.Needs.{needs}
-use Rattle.input.specs.Input.{number32}
-use Rattle.input.proofs.number32.Statement.{statement}
-use Rattle.input.proofs.number32.Tie as tie
+use Rattle.byte_numbers.specs.Numbers.{number32}
+use Rattle.byte_numbers.proofs.number32.Statement.{statement}
+use Rattle.byte_numbers.proofs.number32.Tie as tie
 
 number16-requires : tie.Need-number16-requires
 number16-requires c κs = search needs
