@@ -13,6 +13,7 @@ ghost use Prim.Native.Nat.{_≤_};
 ghost use mathlib.Core.Path.{_≡_};
 ghost use mathlib.Core.Bool.{not};
 ghost use mathlib.Core.List.{[]};
+ghost use lib.ListN.{length};
 ghost use Rattle.parity_check.specs.Check.{sizesFit};
 ghost use Rattle.parity_check.specs.Shapes.{matrixOf};
 ghost use Rattle.quantiser.specs.Settings.{kindOf, stepOf};
@@ -26,8 +27,9 @@ pub enum Opened {
     Refused(Refusal),
 }
 
-// The sizes of the matrix.
-pub fn sizes(bytes: &[u8; 8]) -> Shape
+// The sizes of the matrix. Only this repository's crates call it, with eight bytes at least.
+pub fn sizes(bytes: &[u8]) -> Shape
+    requires { ⌜ 8 ≤ length (now bytes) ⌝ }
     ensures { λ r. ⌜ matrixOf r ≡ matrixIn (now (bytes .entry)) ⌝ }
 {
     Shape {
@@ -51,7 +53,9 @@ fn step_by(kind: u8, d: f32) -> Step
 }
 
 // The setting of seven bytes, refused where it is out of range. A pattern that is not finite never becomes a float.
-pub fn setting(bytes: &[u8; 7]) -> Opened
+// Only this repository's crates call it, with seven bytes at least.
+pub fn setting(bytes: &[u8]) -> Opened
+    requires { ⌜ 7 ≤ length (now bytes) ⌝ }
     ensures { λ r. ⌜ openedOf r ≡ opening (settingVerdict (choiceIn (now (bytes .entry)))) (choiceIn (now (bytes .entry))) ⌝ }
 {
     let kind = bytes[2];
@@ -87,7 +91,9 @@ pub fn sizes_refused(shape: Shape) -> bool
 }
 
 // How the run begins, once the list and the setting are read.
-pub fn begin(shape: Shape, list: &[u16], bytes: &[u8; 7]) -> Opened
+// Only this repository's crates call it, with seven bytes at least.
+pub fn begin(shape: Shape, list: &[u16], bytes: &[u8]) -> Opened
+    requires { ⌜ 7 ≤ length (now bytes) ⌝ }
     ensures { λ r. ⌜ openedOf r ≡ opening (openingVerdict (matrixOf shape (now (list .entry))) (choiceIn (now (bytes .entry)))) (choiceIn (now (bytes .entry))) ⌝ }
 {
     let checked = parity_check::check(shape, list);
