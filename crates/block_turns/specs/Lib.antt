@@ -1,3 +1,2 @@
 -- What the contracts of `block_turns` cite.
-pub mod Turning
-pub mod Lending
+pub mod Turns

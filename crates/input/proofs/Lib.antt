@@ -1,4 +1,2 @@
-pub mod Patterns
-pub mod Sampling
 pub mod Settings
 pub mod Openings

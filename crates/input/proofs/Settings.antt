@@ -4,14 +4,23 @@ use mathlib.Core.Bool.{Bool, true, false, _&&_}
 use mathlib.Core.List.{List}
 use Prim.Native.Nat.{ℕ, _<_}
 use lib.Dec.{leb}
-use lib.Ieee.{Float}
+use lib.Ieee.{Float, nan, inf, fin, lt, eq, le}
 use lib.Ieee.Scale.{finite}
 use lib.ListN.{getD}
 use borrow.Author.Tests.{lt-leb}
+use Rattle.counting.proofs.Searches.{never}
 use Rattle.quantiser.specs.Samples.{Choice, rangesFit, stepFits, settingFits}
-use Rattle.input.specs.Input.{float, choiceIn}
+use Rattle.byte_numbers.specs.Numbers.{float}
+use Rattle.input.specs.Input.{choiceIn}
 use Rattle.input.specs.Opening.{refusedBy, openWith, opening, settingVerdict}
-use Rattle.input.proofs.Patterns.{step-unfit}
+
+-- a step that is not finite is out of range
+step-unfit : (x : Float) → finite x ≡ false → stepFits x ≡ false
+unfolding stepFits le lt eq
+step-unfit nan h = refl
+step-unfit (inf true) h = refl
+step-unfit (inf false) h = refl
+step-unfit (fin s m e) h = absurd (never h)
 
 abbrev pub choice : ℕ → ℕ → ℕ → Float → Choice
 choice b l k x = record { bits = b; limit = l; kind = k; step = x }

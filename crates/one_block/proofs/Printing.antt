@@ -15,7 +15,7 @@ use Rattle.iterative_core.specs.Iterative.{endFrom, reportAt, iterativeWord}
 use Rattle.text.specs.Output.{saidText, blockText}
 use Rattle.numerals.specs.Putting.{PutWithin}
 use Rattle.numerals.proofs.Puts.{put-as}
-use Rattle.input.specs.Input.{samplesIn}
+use Rattle.byte_numbers.specs.Numbers.{samplesIn}
 use Rattle.one_block.specs.Lending.{Answered}
 use Rattle.one_block.specs.Saying.{blockVerdict, blockSaid, blockLine}
 

@@ -12,7 +12,7 @@ use Rattle.packed_word.specs.Packed.{bytesFor}
 use Rattle.parity_check.specs.Code.{Matrix}
 use Rattle.quantiser.specs.Samples.{Choice}
 use Rattle.iterative_core.specs.Iterative.{iterativeWord}
-use Rattle.input.specs.Input.{samplesIn}
+use Rattle.byte_numbers.specs.Numbers.{samplesIn}
 use Rattle.input.specs.Opening.{Decodable}
 use Rattle.one_block.specs.Saying.{blockVerdict, blockSaid}
 

@@ -12,7 +12,7 @@ use Rattle.parity_check.specs.Code.{Matrix}
 use Rattle.quantiser.specs.Samples.{Choice, hardBit, firstNotFinite}
 use Rattle.iterative_core.specs.Iterative.{endFrom, reportAt, iterativeWord}
 use Rattle.text.specs.Output.{blockText}
-use Rattle.input.specs.Input.{samplesIn}
+use Rattle.byte_numbers.specs.Numbers.{samplesIn}
 
 -- "a sample infinite or not a number. Place: first such index"
 unfoldable pub blockVerdict : List Float → Verdict

@@ -1,5 +1,5 @@
 // One block of samples, as functions on slices: its answer and word, and its line.
-// Rests on `input`, `iterative_core` and `text`. Document 01: "Worked by hand", the paragraph on the program.
+// Rests on `byte_numbers`, `input`, `iterative_core` and `text`. Document 01: "Worked by hand", the paragraph on the program.
 use answers::Answer;
 use answers::Refusal;
 use parity_check::Shape;
@@ -26,7 +26,7 @@ pub fn decode(
 {
     let n = shape.n as usize;
     let mut xs = [0f32; 1023];
-    let place = input::samples(bytes, &mut xs);
+    let place = byte_numbers::samples(bytes, &mut xs);
     if place < n {
         return Answer::Refused(Refusal::Sample(place as u16));
     }

@@ -1,2 +1,3 @@
 -- What the contracts of `run_ends` cite.
-pub mod Ending
+pub mod Stages
+pub mod Replies

@@ -1,12 +1,11 @@
 // Standard input and output, by way of lent buffers.
-// Rests on `input`, and on `io` and `libc`, whose contracts say nothing of the bytes that come and go.
+// Rests on `io` and `libc`, whose contracts say nothing of the bytes that come and go.
 // Document 01: "Worked by hand", the paragraph on the program.
 use libc::STDIN_FILENO;
 use libc::STDOUT_FILENO;
 ghost use Prim.Native.Nat.{_≤_};
 ghost use mathlib.Core.Path.{_≡_};
 ghost use lib.ListN.{length, drop};
-ghost use Rattle.standard_io.specs.Reading.{ListRead};
 
 // Reads until so many bytes of the buffer are full, or the input ends, and answers how many came. Those past the wanted ones stay.
 // Only this repository's crates call it, with a buffer that is long enough.
@@ -15,22 +14,6 @@ pub fn read(input: &mut [u8], want: usize) -> usize
     ensures { λ r. ⌜ (r ≤ want) × (drop want (now (input .exit)) ≡ drop want (now (input .entry))) ⌝ }
 {
     io::read_full(STDIN_FILENO, &mut input[..want])
-}
-
-// Reads the list of the matrix, and says whether it was whole.
-// Only this repository's crates call it, after asking refusal 1, with an array that is long enough.
-pub fn read_list(list: &mut [u16], count: usize) -> bool
-    requires { ⌜ (count ≤ 32736) × (count ≤ length (now list)) ⌝ }
-    ensures { λ r. ⌜ ListRead r count (now (list .entry)) (now (list .exit)) ⌝ }
-{
-    let want = 2 * count;
-    let mut bytes = io::large_buffer();
-    let got = read(&mut bytes, want);
-    if got < want {
-        return false;
-    }
-    input::entries(&bytes[..got], list);
-    true
 }
 
 // Writes what stands before `end`, and answers how many bytes that is.

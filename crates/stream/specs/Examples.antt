@@ -25,7 +25,8 @@ use Rattle.iterative.specs.Rounds.{others, extrinsic, levelAfter, roundOf, endO
 use Rattle.iterative.specs.Iterative.{startOf, changedIn, changedBits, endFrom, reportAt, iterativeWord}
 use Rattle.numerals.specs.Numerals.{ascii, digit, digitsWithin, decimal, hex}
 use Rattle.text.specs.Output.{line, heading, shortText, refusedText, saidText, blockText}
-use Rattle.input.specs.Input.{number16, number32, float, matrixIn, entryIn, entriesIn, choiceIn, sampleIn, samplesIn}
+use Rattle.byte_numbers.specs.Numbers.{number16, number32, float, entryIn, entriesIn, sampleIn, samplesIn}
+use Rattle.input.specs.Input.{matrixIn, choiceIn}
 use Rattle.input.specs.Opening.{settingVerdict, openingVerdict}
 use Rattle.one_block.specs.Saying.{blockVerdict, blockSaid, blockLine}
 use Rattle.block_lines.specs.Blocks.{blockAt, blockLines, chunkText}

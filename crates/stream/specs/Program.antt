@@ -15,7 +15,8 @@ use Rattle.parity_check.specs.Code.{Matrix}
 use Rattle.parity_check.specs.Check.{sizesFit}
 use Rattle.quantiser.specs.Samples.{Choice}
 use Rattle.text.specs.Output.{heading, shortText, refusedText}
-use Rattle.input.specs.Input.{matrixIn, entriesIn, choiceIn}
+use Rattle.byte_numbers.specs.Numbers.{entriesIn}
+use Rattle.input.specs.Input.{matrixIn, choiceIn}
 use Rattle.input.specs.Opening.{Opening, refusedBy, openWith, opening, openingVerdict}
 use Rattle.block_lines.specs.Blocks.{blocksIn, blockLines, chunkText}
 

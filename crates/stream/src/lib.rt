@@ -1,45 +1,50 @@
 // The program: the run over standard input and output.
-// Rests on `run_ends`, `standard_io`, `input` and `text`. What the system reads and writes is outside any contract.
+// Rests on `run_ends`, which decides, and on `standard_io`, which reads and writes: what comes and goes is outside any contract.
 // Document 01: "Worked by hand", the paragraph on the program.
-use answers::Refusal;
-use parity_check::Shape;
-use run_ends::end_refused;
-use run_ends::end_short;
-use run_ends::run_on_list;
+use run_ends::Next;
+use run_ends::Stage;
 ghost use mathlib.Core.Path.{_≡_};
-ghost use mathlib.Core.Bool.{true};
-ghost use mathlib.Core.List.{[]};
-ghost use Rattle.parity_check.specs.Check.{sizesFit};
-ghost use Rattle.parity_check.specs.Shapes.{matrixOf};
-ghost use Rattle.block_turns.specs.Lending.{Held};
+ghost use Rattle.run_ends.specs.Replies.{awaitedOf};
+ghost use Rattle.stream.specs.Pieces.{Lent, Piece};
 
-// The run from the list on.
-fn run_on_sizes(shape: Shape, out: &mut [u8], at: usize)
-    requires { ⌜ (sizesFit (matrixOf shape []) ≡ true) × Held 0 at (now out) ⌝ }
+// Reads what a stage wants, and prints the reply.
+fn read_and_reply(
+    stage: Stage,
+    want: usize,
+    list: &mut [u16],
+    input: &mut [u8],
+    out: &mut [u8],
+) -> Next
+    requires { ⌜ Lent (awaitedOf stage (now list)) want (now list) (now input) (now out) ⌝ }
+    ensures { λ r. ⌜ Piece (awaitedOf stage (now (list .entry))) (now (input .exit)) (awaitedOf (r .stage) (now (list .exit))) (r .want) (r .end) (now (out .exit)) ⌝ }
 {
-    let count = (shape.m as usize) * (shape.rho as usize);
-    let mut list = [0u16; 32736];
-    if !standard_io::read_list(&mut list, count) {
-        end_short(out, at);
-        return;
+    let got = standard_io::read(input, want);
+    let next = run_ends::advance(stage, list, &input[..got], out);
+    standard_io::print(out, next.end);
+    next
+}
+
+// Reads and prints until nothing more is wanted. Answers how many bytes that is: none.
+fn until_done(first: Next, list: &mut [u16], input: &mut [u8], out: &mut [u8]) -> usize
+    requires { ⌜ Lent (awaitedOf (first .stage) (now list)) (first .want) (now list) (now input) (now out) ⌝ }
+    ensures { λ r. ⌜ r ≡ 0 ⌝ }
+{
+    let mut stage = first.stage;
+    let mut want = first.want;
+    while 0 < want {
+        let next = read_and_reply(stage, want, list, input, out);
+        stage = next.stage;
+        want = next.want;
     }
-    run_on_list(shape, &list[..count], out, at)
+    want
 }
 
 // The program.
 pub fn run() {
+    let mut list = [0u16; 32736];
+    let mut input = io::large_buffer();
     let mut out = io::large_buffer();
-    let at = text::put_heading(&mut out, 0);
-    let mut head = [0u8; 8];
-    let got = standard_io::read(&mut head, 8);
-    if got < 8 {
-        end_short(&mut out, at);
-        return;
-    }
-    let shape = input::sizes(&head);
-    if input::sizes_refused(shape) {
-        end_refused(&mut out, at, Refusal::Sizes);
-        return;
-    }
-    run_on_sizes(shape, &mut out, at)
+    let first = run_ends::first(&mut out);
+    standard_io::print(&out, first.end);
+    until_done(first, &mut list, &mut input, &mut out);
 }

@@ -1,9 +1,10 @@
 -- `block_turns::at_once` meets its contract: the least of three numbers. Assumes nothing.
 use mathlib.Core.Path.{ap, sym, _∙_, subst}
 use Prim.Native.Nat.{ℕ, min, _-_}
+use native.Mathlib.Omega.{arith}
 use borrow.Author.Needs.{needs}
-use Rattle.block_turns.specs.Lending.{AtOnce}
-use Rattle.block_turns.proofs.Turning.{at-once}
+use Rattle.block_turns.specs.Turns.{AtOnce}
+use Rattle.block_turns.proofs.Turns.{at-once}
 use Rattle.block_turns.proofs.at_once.Statement.{statement}
 use Rattle.block_turns.proofs.at_once.Tie as tie
 
@@ -22,8 +23,10 @@ least-requires-2 c κs = search needs
 returns : tie.Need-returns
 returns c =
     let s = c .before .before in
-    let e = c .least2 .ensures ∙ ap (λ (k : ℕ). min k (65535 - s .args .number)) (c .before .least .ensures) in
-    subst (AtOnce (s .args .n) (s .args .number)) (sym e) (at-once (s .args .n) (s .args .number) (s .pre .0) (s .pre .1) (s .pre .2))
+    let n = s .args .n in
+    let i = s .args .number in
+    let e = c .least2 .ensures ∙ ap (λ (k : ℕ). min k (65535 - i)) (c .before .least .ensures) in
+    subst (AtOnce n i) (sym e) (at-once n i (s .pre .0) (s .pre .1) (omega arith))
 
 pub at-once-spec : {M : Type 1} → statement M
 at-once-spec = tie.close (tie.spec sub-left div-least least-requires least-requires-2 returns)

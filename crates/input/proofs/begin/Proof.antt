@@ -23,14 +23,14 @@ enum-known-checked c = search needs
 returns : tie.Need-returns
 returns c =
     let k = c .before .before .before in
-    let s = k .before .before in
+    let s = k .before .before .before in
     c .setting .ensures
     ∙ matrix-passes (matrixOf (s .args .shape) (s .args .list .now)) (choiceIn (s .args .bytes .now)) (sym (k .check .ensures) ∙ ap verdictOf (c .before .enum-told .given .1))
 
 returns-2 : tie.Need-returns-2
 returns-2 c =
     let k = c .before .before .before in
-    let s = k .before .before in
+    let s = k .before .before .before in
     matrix-refuses (matrixOf (s .args .shape) (s .args .list .now)) (choiceIn (s .args .bytes .now)) (sym (k .check .ensures) ∙ ap verdictOf (c .before .checked .given .1))
 
 pub begin-spec : {M : Type 1} → statement M

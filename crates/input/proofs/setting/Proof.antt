@@ -8,15 +8,16 @@ use lib.Ieee.{binary32, ofBits}
 use lib.Ieee.Scale.{finite}
 use Rattle.quantiser.specs.Settings.{kindOf, stepOf}
 use Rattle.quantiser.specs.Samples.{settingFits}
-use Rattle.input.specs.Input.{float, choiceIn}
+use Rattle.byte_numbers.specs.Numbers.{float}
+use Rattle.byte_numbers.proofs.Patterns.{no-nan}
+use Rattle.input.specs.Input.{choiceIn}
 use Rattle.input.specs.Opening.{openWith}
-use Rattle.input.proofs.Patterns.{no-nan}
 use Rattle.input.proofs.Settings.{choice, choice-is, kind-unfit, float-unfit, begins-refused, begins-ready}
 use Rattle.input.proofs.setting.Statement.{statement}
 use Rattle.input.proofs.setting.Tie as tie
 
-element-copy-out-kind : tie.Need-element-copy-out-kind
-element-copy-out-kind c = search needs
+shared-slice-read-kind : tie.Need-shared-slice-read-kind
+shared-slice-read-kind c = search needs
 
 number32-requires : tie.Need-number32-requires
 number32-requires c κs = search needs
@@ -39,14 +40,14 @@ returns-2 c =
     ap (λ (p : ℕ). finite (ofBits binary32 p)) (sym (n .number32 .ensures)) ∙ sym (c .before .finite-pattern .ensures) ∙ not-true _ (c .if2 .taken) in
     begins-refused (choiceIn bs) (float-unfit (choiceIn bs) off)
 
-element-copy-out-wide : tie.Need-element-copy-out-wide
-element-copy-out-wide c = search needs
+shared-slice-read-wide : tie.Need-shared-slice-read-wide
+shared-slice-read-wide c = search needs
 
 wide-requires : tie.Need-wide-requires
 wide-requires c κs = search needs
 
-element-copy-out-wide-2 : tie.Need-element-copy-out-wide-2
-element-copy-out-wide-2 c = search needs
+shared-slice-read-wide-2 : tie.Need-shared-slice-read-wide-2
+shared-slice-read-wide-2 c = search needs
 
 wide-requires-2 : tie.Need-wide-requires-2
 wide-requires-2 c κs = search needs
@@ -88,14 +89,14 @@ pub setting-spec : {M : Type 1} → statement M
 setting-spec =
     tie.close
     (tie.spec
-    element-copy-out-kind
+    shared-slice-read-kind
     number32-requires
     returns
     finite-pattern-requires
     returns-2
-    element-copy-out-wide
+    shared-slice-read-wide
     wide-requires
-    element-copy-out-wide-2
+    shared-slice-read-wide-2
     wide-requires-2
     float-from-bits-step-by
     step-by-requires

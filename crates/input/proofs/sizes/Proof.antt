@@ -18,7 +18,8 @@ number16-requires-4 c κs = search needs
 
 returns : tie.Need-returns
 unfolding matrixIn
-returns c = rw (c .before .before .before .before .before .before .number16 .ensures, c .before .before .before .before .number162 .ensures, c .before .before .number163 .ensures, c .number164 .ensures)
+returns c =
+    rw (c .before .before .before .number16 .ensures, c .before .before .number162 .ensures, c .before .number163 .ensures, c .number164 .ensures)
 
 pub sizes-spec : {M : Type 1} → statement M
 sizes-spec =

@@ -1,0 +1,74 @@
+// Numbers and single-format floats that stand in bytes, low byte first.
+// Rests on `counting`. Document 01: "Worked by hand", the paragraph on the program.
+ghost use Prim.Native.Nat.{_+_, _/_, _≤_, _<_};
+ghost use mathlib.Core.Path.{_≡_};
+ghost use lib.Ieee.{binary32, ofBits};
+ghost use lib.Ieee.Scale.{finite};
+ghost use lib.ListN.{length};
+ghost use Rattle.counting.specs.Lists.{over};
+ghost use Rattle.byte_numbers.specs.Numbers.{number16 as Numbers·number16, number32 as Numbers·number32, entriesIn};
+ghost use Rattle.byte_numbers.specs.Floats.{Sampled};
+
+// A byte as a wider number.
+pub fn wide(b: u8) -> u16
+    ensures { λ r. ⌜ (r ≡ b) × (r < 256) ⌝ }
+{
+    b as u16
+}
+
+// The 16-bit number at byte p. Only this repository's crates call it, where the bytes have one.
+pub fn number16(bytes: &[u8], p: usize) -> u16
+    requires { ⌜ p + 1 < length (now bytes) ⌝ }
+    ensures { λ r. ⌜ r ≡ Numbers·number16 (now (bytes .entry)) p ⌝ }
+{
+    wide(bytes[p]) + 256 * wide(bytes[p + 1])
+}
+
+// The 32-bit number at byte p. Only this repository's crates call it, where the bytes have one.
+pub fn number32(bytes: &[u8], p: usize) -> u32
+    requires { ⌜ p + 3 < length (now bytes) ⌝ }
+    ensures { λ r. ⌜ r ≡ Numbers·number32 (now (bytes .entry)) p ⌝ }
+{
+    let low = number16(bytes, p);
+    let high = number16(bytes, p + 2);
+    low as u32 + 65536 * (high as u32)
+}
+
+// The 16-bit numbers that the bytes are, at the front of an array. Only this repository's crates call it, with room for them.
+pub fn entries(bytes: &[u8], list: &mut [u16])
+    requires { ⌜ length (now bytes) / 2 ≤ length (now list) ⌝ }
+    ensures { λ _. ⌜ now (list .exit) ≡ over (entriesIn (now (bytes .entry))) (now (list .entry)) ⌝ }
+{
+    let count = bytes.len() / 2;
+    let mut i = 0;
+    while i < count {
+        list[i] = number16(bytes, 2 * i);
+        i += 1;
+    }
+}
+
+// Whether a pattern is that of a finite float: the exponent's field is not all ones.
+pub fn finite_pattern(p: u32) -> bool
+    ensures { λ r. ⌜ r ≡ finite (ofBits binary32 p) ⌝ }
+{
+    p % 0x8000_0000 / 0x80_0000 != 255
+}
+
+// The floats that the bytes are, up to the first that is not finite. Answers its place, or how many there are.
+// Only this repository's crates call it, with room for them.
+pub fn samples(bytes: &[u8], xs: &mut [f32]) -> usize
+    requires { ⌜ length (now bytes) / 4 ≤ length (now xs) ⌝ }
+    ensures { λ r. ⌜ Sampled (now (bytes .entry)) (now (xs .entry)) (now (xs .exit)) r ⌝ }
+{
+    let count = bytes.len() / 4;
+    let mut i = 0;
+    while i < count {
+        let p = number32(bytes, 4 * i);
+        if !finite_pattern(p) {
+            return i;
+        }
+        xs[i] = f32::from_bits(p);
+        i += 1;
+    }
+    i
+}

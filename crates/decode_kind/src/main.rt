@@ -1,4 +1,0 @@
-// A step of a third kind.
-fn main() {
-    stream::run();
-}

@@ -1,4 +1,0 @@
-// The matrix of P9: two rows with two columns in common.
-fn main() {
-    stream::run();
-}

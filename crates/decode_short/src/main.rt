@@ -1,4 +1,0 @@
-// An input that ends inside its second block.
-fn main() {
-    stream::run();
-}

@@ -1,2 +1,0 @@
--- What the contracts of `standard_io` cite.
-pub mod Reading
