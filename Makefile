@@ -13,9 +13,9 @@ RESULTS ?= build/results.csv
 # Decodes SAMPLES by MATRIX and SETTING, the example block set without them, into the table RESULTS.
 # Blocks that stay open (status 1) are no fault.
 run: tools
-	@echo "The first run proves and builds all it needs, which takes about two minutes; later runs take seconds."
-	@rt check decode codes record_open record_step one_step failing_checks
-	@$(MAKE) --no-print-directory staticlib mlgd
+	@echo "The first run proves and builds all it needs, which takes about two minutes (build/run.log tells how far it is); later runs take seconds."
+	@mkdir -p build && rt check decode codes record_open record_step one_step failing_checks >build/run.log || { cat build/run.log; exit 1; }
+	@$(MAKE) --no-print-directory target/staticlib/libffi.a mlgd >>build/run.log || { cat build/run.log; exit 1; }
 	build/release/mlgd decode --matrix "$(MATRIX)" --setting "$(SETTING)" --samples "$(SAMPLES)" --out "$(RESULTS)" || test $$? -eq 1
 	@head -n 20 "$(RESULTS)"
 
@@ -41,6 +41,10 @@ prove: tools
 
 # The exported functions as a static library for Rust and C.
 staticlib:
+	rt staticlib ffi
+
+# The same, unless it is there already.
+target/staticlib/libffi.a: $(wildcard crates/*/src/*.rt)
 	rt staticlib ffi
 
 # The user's tool, which needs the archive: build/release/mlgd.

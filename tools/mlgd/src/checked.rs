@@ -143,8 +143,15 @@ fn overlap(file: &MatrixFile, row: usize) -> Fault {
         .remedy(remedy)
 }
 
-/// The proved check of a setting, by the quantiser on no samples.
-pub fn setting(setting: &Setting) -> Result<(), Fault> {
+/// A setting that the proved check accepts, from an option's value: by the quantiser on no
+/// samples.
+pub fn setting(value: &str) -> Result<Setting, Fault> {
+    let setting = Setting::open(value)?;
+    accepted(&setting, Setting::name(value))?;
+    Ok(setting)
+}
+
+fn accepted(setting: &Setting, name: &str) -> Result<(), Fault> {
     let lent = reference::Setting {
         bits: setting.bits.into(),
         limit: setting.limit.into(),
@@ -170,7 +177,7 @@ pub fn setting(setting: &Setting) -> Result<(), Fault> {
             "scale samples and step alike",
         ),
     };
-    Err(Fault::new("--setting", what).remedy(remedy))
+    Err(Fault::new(name, what).remedy(remedy))
 }
 
 /// An answer of voting.

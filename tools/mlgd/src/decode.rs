@@ -104,8 +104,7 @@ impl Job {
             return Err(arguments.misused("--words goes with --one-step"));
         }
         let file = arguments.needed("--samples")?;
-        let setting = Setting::open(arguments.needed("--setting")?)?;
-        checked::setting(&setting)?;
+        let setting = checked::setting(arguments.needed("--setting")?)?;
         let matrix = accepted(arguments)?;
         let form = form(arguments)?;
         let decoder = Decoder {

@@ -42,6 +42,11 @@ pub struct Span {
 }
 
 impl Span {
+    /// Whether one character alone stands between this field and the next.
+    pub fn close_to(&self, next: &Span) -> bool {
+        !self.quoted && !next.quoted && next.start == self.end + 1
+    }
+
     pub fn of<'a>(&self, line: &'a str) -> &'a str {
         &line[self.start..self.end]
     }

@@ -70,11 +70,11 @@ pub fn complaint(written: &str, decimal_comma: bool) -> (String, &'static str) {
     if written.is_empty() {
         return ("the field is empty".into(), missing);
     }
+    if written.starts_with('#') && !is_error(written) {
+        return (said("is not a number"), "a comment has a blank after its #");
+    }
     if is_missing(written) {
         return (said("is a missing value"), missing);
-    }
-    if written.starts_with('#') {
-        return (said("is not a number"), "a comment has a blank after its #");
     }
     if decimal_comma && written.contains('.') {
         return (
@@ -105,18 +105,21 @@ fn code(character: char, what: &str) -> String {
     format!("has U+{:04X}, {what}", u32::from(character))
 }
 
-/// What spreadsheets and statistics programs write for a value that is not there.
-fn is_missing(written: &str) -> bool {
+/// What spreadsheets and statistics programs write for a value that is not there. Nothing that
+/// begins with `#` is a label.
+pub fn is_missing(written: &str) -> bool {
     let names = ["na", "n/a", "null", "none", "-", "--", "?"];
     let lower = written.to_ascii_lowercase();
-    let error = written.strip_prefix('#').is_some_and(|rest| {
+    written.starts_with('#') || names.contains(&lower.as_str())
+}
+
+/// `#N/A`, `#DIV/0!` and the like.
+fn is_error(written: &str) -> bool {
+    let upper = |byte: u8| byte.is_ascii_uppercase() || b"/0".contains(&byte);
+    written.strip_prefix('#').is_some_and(|rest| {
         let name = rest.trim_end_matches(['!', '?']);
-        !name.is_empty()
-            && name
-                .bytes()
-                .all(|b| b.is_ascii_uppercase() || b"/0".contains(&b))
-    });
-    error || names.contains(&lower.as_str())
+        !name.is_empty() && name.bytes().all(upper)
+    })
 }
 
 /// Whether this is a decimal number, but too large.

@@ -56,11 +56,22 @@ impl Output {
     pub fn finish(mut self) -> Result<(), Fault> {
         let flushed = self.writer.flush();
         flushed.map_err(|error| Fault::system(&self.name, &error))?;
-        let Some((file, part, whole)) = self.part else {
+        let Some((file, part, whole)) = &self.part else {
             return Ok(());
         };
-        let kept = file.sync_all().and_then(|()| fs::rename(&part, &whole));
-        kept.map_err(|error| Fault::system(&self.name, &error))
+        let kept = file.sync_all().and_then(|()| fs::rename(part, whole));
+        kept.map_err(|error| Fault::system(&self.name, &error))?;
+        self.part = None;
+        Ok(())
+    }
+}
+
+impl Drop for Output {
+    /// What is not whole is taken away.
+    fn drop(&mut self) {
+        if let Some((_, part, _)) = &self.part {
+            fs::remove_file(part).ok();
+        }
     }
 }
 

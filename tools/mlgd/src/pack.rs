@@ -5,7 +5,6 @@ use crate::decode::{accepted, form};
 use crate::fault::Fault;
 use crate::output::{print, refuse_same, Output};
 use crate::samples_file::SamplesFile;
-use crate::setting::Setting;
 use crate::status::Status;
 use crate::{checked, stream};
 use std::io::{stdout, IsTerminal};
@@ -42,8 +41,7 @@ pub fn run(words: &[String]) -> Result<Status, Fault> {
         return print(USAGE).map(|()| Status::Done);
     }
     let arguments = Arguments::read(words, &KNOWN)?;
-    let setting = Setting::open(arguments.needed("--setting")?)?;
-    checked::setting(&setting)?;
+    let setting = checked::setting(arguments.needed("--setting")?)?;
     let matrix = accepted(&arguments)?;
     let name = arguments.needed("--samples")?;
     let samples = SamplesFile::open(name, matrix.matrix.n, form(&arguments)?)?;

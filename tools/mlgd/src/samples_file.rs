@@ -144,7 +144,7 @@ impl SamplesFile {
         let &[whole, fraction] = spans else {
             return Ok(());
         };
-        if separator != Separator::Comma || whole.quoted || fraction.quoted {
+        if separator != Separator::Comma || !whole.close_to(&fraction) {
             return Ok(());
         }
         let line = self.lines.text();
@@ -188,7 +188,7 @@ impl SamplesFile {
                 return fault;
             }
         }
-        let lettered = written.chars().any(char::is_alphabetic);
+        let lettered = written.chars().any(char::is_alphabetic) && !number::is_missing(written);
         let numbers = (self.form.skip..spans.len())
             .filter(|&at| is_number(at))
             .count();
@@ -259,8 +259,8 @@ impl SamplesFile {
             _ => "",
         };
         if count.is_multiple_of(n) {
-            let what =
-                format!("this line has {count} samples, and a block has {n}: several blocks?");
+            let blocks = count / n;
+            let what = format!("this line has {count} samples, {blocks} blocks of {n}");
             let remedy =
                 format!("put each block on a line of its own, and look at the matrix's n{decimal}");
             return place.fault(what, remedy);

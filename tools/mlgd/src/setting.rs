@@ -20,17 +20,28 @@ const WORDS: &str = "bits 8 limit 64 level-step 0.1";
 impl Setting {
     /// From an option's value: the words themselves, or the name of a file with them.
     pub fn open(value: &str) -> Result<Setting, Fault> {
-        let text = if value.trim().contains(' ') || value.trim().is_empty() {
-            Text::of("--setting", value)?
-        } else {
-            Text::open(value)?
+        let text = match Setting::name(value) == value {
+            true => Text::open(value)?,
+            false => Text::of("--setting", value)?,
         };
         Setting::read(&text)
+    }
+
+    /// What messages call it: the file's name, or the option's.
+    pub fn name(value: &str) -> &str {
+        match value.trim().contains(' ') || value.trim().is_empty() {
+            true => "--setting",
+            false => value,
+        }
     }
 
     /// The words in any order, over as many lines as one likes. `kind` and a number before the
     /// step stands for any other kind, which is refused.
     pub(crate) fn read(text: &Text) -> Result<Setting, Fault> {
+        if let Some(line) = text.lines.iter().find(|line| line.has_decimal_comma()) {
+            let what = "a decimal comma in the setting".to_string();
+            return Err(text.of_line(line, what, "write 0.5 in place of 0,5"));
+        }
         let mut found = Found::default();
         let places = text.lines.iter();
         let mut places = places.flat_map(|line| (0..line.len()).map(move |at| (line, at)));

@@ -27,6 +27,13 @@ impl Line {
         &self.text[start as usize..end as usize]
     }
 
+    /// Whether a comma stands between two digits, as in 0,5.
+    pub(crate) fn has_decimal_comma(&self) -> bool {
+        let digit = |byte: u8| byte.is_ascii_digit();
+        let three = |three: &[u8]| digit(three[0]) && three[1] == b',' && digit(three[2]);
+        self.text.as_bytes().windows(3).any(three)
+    }
+
     pub(crate) fn fields(&self) -> impl Iterator<Item = &str> {
         (0..self.len()).map(|at| self.field(at))
     }

@@ -54,8 +54,13 @@ fn word(n: usize, line: &str) -> Result<Vec<u8>, (String, String)> {
         "write {n} zeros and ones, or {} hexadecimal digits with x before them",
         2 * n.div_ceil(8)
     );
-    if is_bits && is_digits && marked.is_none() {
-        return Err((format!("`{written}` could be bits or digits"), remedy));
+    let divided = written != line.trim();
+    if is_bits && is_digits && marked.is_none() && !divided {
+        let remedy = "write x before digits, or a blank between bits";
+        return Err((
+            format!("`{written}` could be bits or digits"),
+            remedy.into(),
+        ));
     }
     if is_bits && marked.is_none() {
         return Ok(packed(written.as_bytes()));
@@ -102,5 +107,6 @@ mod tests {
         }
         assert!(word(2, "10").is_err());
         assert_eq!(word(2, "x80"), Ok(vec![0x80]));
+        assert_eq!(word(2, "1 0"), Ok(vec![0x80]));
     }
 }
