@@ -17,6 +17,7 @@ run: tools
 	@mkdir -p build && rt check decode codes record_open record_step one_step failing_checks >build/run.log || { cat build/run.log; exit 1; }
 	@$(MAKE) --no-print-directory target/staticlib/libffi.a mlgd >>build/run.log || { cat build/run.log; exit 1; }
 	build/release/mlgd decode --matrix "$(MATRIX)" --setting "$(SETTING)" --samples "$(SAMPLES)" --out "$(RESULTS)" || test $$? -eq 1
+	@if build/release/mlgd map --help >/dev/null 2>&1; then build/release/mlgd map "$(RESULTS)" --out "$(RESULTS:.csv=.svg)"; fi
 	@head -n 20 "$(RESULTS)"
 
 # The layout, the Rust tests, then the gate: its 'N passed, 0 failed' is the last line.

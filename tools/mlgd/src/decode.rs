@@ -25,7 +25,8 @@ line, block, outcome, rounds, failing, changed, wrong_bits, within_half, reason,
 --matrix M        alist, a list with sizes, bare rows, or zeros and ones (see mlgd matrix --help)
 --setting S       words such as \"bits 8 limit 64 level-step 0.1\" (or full-scale 4), or a file
                   with them
---samples X       numbers, n to a block: CSV with , or ; or tabs, or blanks; - is standard input
+--samples X       numbers, n to a block: CSV with , or ; or tabs, or blanks; - is standard input.
+                  nan and inf are read and the block is refused; # and a blank begin a comment
 --out R           the table; standard output without it
 --header          the first line of X is a heading
 --skip-columns K  the first K fields of each line are labels
@@ -73,6 +74,16 @@ pub fn run(words: &[String]) -> Result<Status, Fault> {
     })
 }
 
+/// Standard input holds one file.
+pub fn once_standard_input(arguments: &Arguments) -> Result<(), Fault> {
+    let inputs = ["--matrix", "--setting", "--samples", "--words"];
+    let standard = |name: &&str| arguments.value(name) == Some("-");
+    match inputs.into_iter().filter(standard).count() {
+        0 | 1 => Ok(()),
+        _ => Err(arguments.misused("- stands for two inputs")),
+    }
+}
+
 /// How the samples are written, as the options say.
 pub fn form(arguments: &Arguments) -> Result<Form, Fault> {
     Ok(Form {
@@ -104,6 +115,7 @@ impl Job {
             return Err(arguments.misused("--words goes with --one-step"));
         }
         let file = arguments.needed("--samples")?;
+        once_standard_input(arguments)?;
         let setting = checked::setting(arguments.needed("--setting")?)?;
         let matrix = accepted(arguments)?;
         let form = form(arguments)?;

@@ -3,7 +3,7 @@
 use std::fmt;
 use std::io;
 
-/// A reason to stop. It is shown as `file:line:field: what, remedy` and ends the tool with status 2.
+/// A reason to stop. It is shown as `file:line:field: what, remedy`, and the status is 2.
 #[derive(Clone, Debug, PartialEq, Eq)]
 pub struct Fault {
     file: String,

@@ -29,7 +29,8 @@ const SUBCOMMANDS: &[Subcommand] = &[
 
 fn usage() -> String {
     let mut text = String::from(
-        "mlgd SUBCOMMAND ..\n\nDecodes blocks of binary parity-check codes, with a promise that is proved.\n\n",
+        "mlgd SUBCOMMAND ..\n\n\
+         Decodes blocks of binary parity-check codes, with a promise that is proved.\n\n",
     );
     for (name, help, _) in SUBCOMMANDS {
         text += &format!("mlgd {name:<9} {help}\n");

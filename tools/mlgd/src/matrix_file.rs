@@ -176,7 +176,8 @@ fn weight_of_columns(text: &Text, n: usize, rows: &[u16], counted: usize) -> Res
         .position(|&weight| weight != weights[0])
         .unwrap_or(0);
     let what = format!(
-        "column {counted} stands in {} rows and column {} in {}: the decoder takes columns of one weight",
+        "column {counted} stands in {} rows and column {} in {}: \
+         the decoder takes columns of one weight",
         weights[0],
         other + counted,
         weights[other]

@@ -2,7 +2,7 @@
 
 use crate::arguments::Arguments;
 use crate::checked;
-use crate::decode::{accepted, form};
+use crate::decode::{accepted, form, once_standard_input};
 use crate::fault::Fault;
 use crate::matrix_file::Matrix;
 use crate::output::{refuse_same, Output};
@@ -80,6 +80,7 @@ pub fn run(arguments: &Arguments) -> Result<Totals, Fault> {
             return Err(arguments.misused(format!("{name} does not go with --one-step")));
         }
     }
+    once_standard_input(arguments)?;
     let matrix = accepted(arguments)?;
     let mut source = Source::open(arguments, matrix.matrix.n)?;
     let out = arguments.value("--out");

@@ -54,28 +54,25 @@ impl Promise {
         }
     }
 
-    /// The row of a block that was decoded or failed. `weak`: a sample above 0 has level 0.
-    pub fn row(&self, line: usize, block: usize, answer: Answer, ended: Ended) -> Row {
-        let within_half = answer.decoded && ended.wrong_bits <= self.t;
-        let reason = match (answer.decoded, within_half, self.missing_limit()) {
-            (true, true, _) => String::new(),
-            (true, false, _) => {
-                format!(
-                    "{}: not proved to be the block sent",
-                    self.more_than(ended.weak)
-                )
-            }
-            (false, _, None) => format!(
-                "{}: {} still fail: send the block again",
-                self.more_than(ended.weak),
-                checks(answer.failing)
-            ),
-            (false, _, Some(ample)) => format!(
-                "{} still fail after {} rounds: try a limit of {ample} before you send it again",
-                checks(answer.failing),
+    /// Why a block is open to doubt, in words; nothing where it is decoded within the half.
+    fn reason(&self, answer: &Answer, ended: &Ended) -> String {
+        let (wrong, checks) = (self.more_than(ended.weak), checks(answer.failing));
+        match (answer.decoded, self.missing_limit()) {
+            (true, _) if ended.wrong_bits <= self.t => String::new(),
+            (true, _) => format!("{wrong}: not proved to be the block sent"),
+            (false, None) => format!("{wrong}: {checks} still fail: send the block again"),
+            (false, Some(ample)) => format!(
+                "{checks} still fail after {} rounds: \
+                 try a limit of {ample} before you send it again",
                 answer.rounds
             ),
-        };
+        }
+    }
+
+    /// The row of a block that was decoded or failed.
+    pub fn row(&self, line: usize, block: usize, answer: Answer, ended: Ended) -> Row {
+        let within_half = answer.decoded && ended.wrong_bits <= self.t;
+        let reason = self.reason(&answer, &ended);
         Row {
             line,
             block,
@@ -182,16 +179,21 @@ impl Totals {
     pub fn summary(&self, sizes: &str, promise: &Promise) -> String {
         let mut line = format!("{sizes}, blocks {}", self.blocks);
         let Some((limit, ample)) = promise.limits else {
-            return line + ": one-step voting undoes any t wrong bits";
+            return line + "; one-step voting carries the promise";
         };
         line += &format!(", samples at level 0: {}", self.level_0);
         line += &match limit < ample {
-            true => format!("; limit {limit} promises nothing: limit {ample} (L / 2 + 1) undoes any t wrong bits"),
-            false => format!("; limit {limit} undoes any t wrong bits (it is at least L / 2 + 1 = {ample})"),
+            true => format!(
+                "; limit {limit} does not carry the promise: limit {ample} (L / 2 + 1) does"
+            ),
+            false => {
+                format!("; limit {limit} carries the promise (it is at least L / 2 + 1 = {ample})")
+            }
         };
         if promise.needs_levels() {
             line += &format!(
-                "; gamma is even: count on t - 1 in the {} blocks where a sample above 0 has level 0",
+                "; gamma is even: blocks where a sample above 0 has level 0, so that they carry \
+                 it for t - 1: {}",
                 self.weak_blocks
             );
         }

@@ -163,46 +163,23 @@ impl SamplesFile {
         let place = self.lines.place();
         let line = without_comment(self.lines.text());
         let spans = &self.fields.spans;
-        let written = spans[at].of(line);
-        let comma = self.form.decimal_comma;
-        let is_number = |at: usize| number::read(spans[at].of(line), comma).is_some();
+        let (written, comma) = (spans[at].of(line), self.form.decimal_comma);
         let column = format!("column {}", column_letters(at + 1));
         if spans.iter().all(|span| span.of(line).is_empty()) {
             let remedy = "an empty row of the spreadsheet? Take the line away";
             return place.fault("every field of this line is empty", remedy);
         }
         if written.is_empty() && at + 1 == spans.len() && at > self.form.skip {
-            let what = format!(
-                "the line ends with {}: {column} is empty",
-                separator.shown()
-            );
-            return place.at(
-                at + 1,
-                what,
-                "take that separator away, or: sed 's/[;,]$//' old > new",
-            );
+            let by = separator.shown();
+            let what = format!("the line ends with {by}: {column} is empty");
+            let remedy = "take that separator away, or: sed 's/[;,]$//' old > new";
+            return place.at(at + 1, what, remedy);
         }
-        let pieces = || written.split([' ', '\t']);
-        if pieces().all(|piece| number::read(piece, true).is_some()) {
-            if let Err(fault) = refuse_blank(place, at + 1, written, separator) {
-                return fault;
-            }
-        }
-        let lettered = written.chars().any(char::is_alphabetic) && !number::is_missing(written);
-        let numbers = (self.form.skip..spans.len())
-            .filter(|&at| is_number(at))
-            .count();
-        let texts = spans.len() - self.form.skip - numbers;
-        let first = self.blocks == 0 && self.shape.is_empty() && !self.form.header;
-        if first && texts > numbers && lettered {
+        let is_number = |piece| number::read(piece, true).is_some();
+        let numbers = written.split([' ', '\t']).all(is_number);
+        let hint = self.heading_or_labels(at).filter(|_| !numbers);
+        if let Some(remedy) = hint {
             let what = format!("{column}: `{written}` is not a number");
-            return place.at(at + 1, what, "give --header if this line is a heading");
-        }
-        let labels = (at..spans.len()).take_while(|&at| !is_number(at)).count();
-        let all_labels = at == self.form.skip && texts == labels && numbers > 0;
-        if all_labels && lettered {
-            let what = format!("{column}: `{written}` is not a number");
-            let remedy = format!("give --skip-columns {} if these are labels", at + labels);
             return place.at(at + 1, what, remedy);
         }
         if let Err(fault) = refuse_blank(place, at + 1, written, separator) {
@@ -210,6 +187,27 @@ impl SamplesFile {
         }
         let (what, remedy) = number::complaint(written, comma);
         place.at(at + 1, format!("{column}: {what}"), remedy)
+    }
+
+    /// The option to give, if this field that is no number looks like a heading or a label.
+    fn heading_or_labels(&self, at: usize) -> Option<String> {
+        let line = without_comment(self.lines.text());
+        let (spans, skip) = (&self.fields.spans, self.form.skip);
+        let written = spans[at].of(line);
+        if !written.chars().any(char::is_alphabetic) || number::is_missing(written) {
+            return None;
+        }
+        let comma = self.form.decimal_comma;
+        let is_number = |at: &usize| number::read(spans[*at].of(line), comma).is_some();
+        let numbers = (skip..spans.len()).filter(is_number).count();
+        let texts = spans.len() - skip - numbers;
+        let first = self.blocks == 0 && self.shape.is_empty() && !self.form.header;
+        if first && texts > numbers {
+            return Some("give --header if this line is a heading".into());
+        }
+        let labels = (at..spans.len()).take_while(|at| !is_number(at)).count();
+        let all = at == skip && texts == labels && numbers > 0;
+        all.then(|| format!("give --skip-columns {} if these are labels", at + labels))
     }
 
     /// Whether a line of `count` samples has its place in the block, `held` with it.
@@ -268,7 +266,8 @@ impl SamplesFile {
         let extra = self.form.skip + count - n;
         let what = format!("this line has {count} samples, and a block has {n}");
         let remedy = format!(
-            "is this the right matrix? If the first fields are labels, give --skip-columns {extra}{decimal}"
+            "is this the right matrix? If the first fields are labels, \
+             give --skip-columns {extra}{decimal}"
         );
         place.fault(what, remedy)
     }

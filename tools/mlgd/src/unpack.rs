@@ -44,37 +44,28 @@ pub fn run(words: &[String]) -> Result<Status, Fault> {
     let mut input = Input::open(name)?;
     let (matrix, setting) = input.head()?;
     if let Some(out) = arguments.value("--matrix") {
-        let text = match arguments.flag("--alist") {
-            false => matrix.plain(),
-            true => matrix.alist().ok_or_else(|| {
-                let what = "this matrix has no alist form";
-                Fault::new(shown(name), what).remedy("leave out --alist to see its list")
-            })?,
-        };
-        whole(out, &text)?;
+        whole(out, &as_text(&matrix, name, arguments.flag("--alist"))?)?;
     }
     if let Some(out) = arguments.value("--setting") {
         whole(out, &format!("{setting}\n"))?;
     }
-    let mut output = arguments
-        .value("--samples")
-        .map(|out| Output::create(Some(out)))
-        .transpose()?;
-    let mut blocks = 0;
-    while let Some(line) = input.block(&matrix, blocks)? {
-        blocks += 1;
-        if let Some(output) = &mut output {
-            output.write(line.as_bytes())?;
-        }
-    }
-    if let Some(output) = output {
-        output.finish()?;
-    }
-    eprintln!(
-        "n {}, m {}, rho {}, gamma {}, blocks {blocks}",
-        matrix.n, matrix.m, matrix.rho, matrix.gamma
-    );
+    let blocks = input.blocks(&matrix, arguments.value("--samples"))?;
+    let Matrix {
+        n, m, rho, gamma, ..
+    } = matrix;
+    eprintln!("n {n}, m {m}, rho {rho}, gamma {gamma}, blocks {blocks}");
     Ok(Status::Done)
+}
+
+/// The matrix as a list or as an alist file.
+fn as_text(matrix: &Matrix, name: &str, alist: bool) -> Result<String, Fault> {
+    if !alist {
+        return Ok(matrix.plain());
+    }
+    matrix.alist().ok_or_else(|| {
+        let what = "this matrix has no alist form";
+        Fault::new(shown(name), what).remedy("leave out --alist to see its list")
+    })
 }
 
 /// Writes a file in one go.
@@ -135,7 +126,22 @@ impl Input {
         Ok((matrix, setting))
     }
 
-    /// A block as a line of CSV; none at the end.
+    /// Writes all blocks, if they are wanted, and counts them.
+    fn blocks(&mut self, matrix: &Matrix, out: Option<&str>) -> Result<usize, Fault> {
+        let output = out.map(|out| Output::create(Some(out)));
+        let (mut output, mut blocks) = (output.transpose()?, 0);
+        while let Some(line) = self.block(matrix, blocks)? {
+            blocks += 1;
+            if let Some(output) = &mut output {
+                output.write(line.as_bytes())?;
+            }
+        }
+        output.map_or(Ok(()), Output::finish)?;
+        Ok(blocks)
+    }
+
+    /// A block as a line of CSV; none at the end. `1,1` could be a decimal comma: two samples
+    /// have a semicolon between them.
     pub fn block(&mut self, matrix: &Matrix, number: usize) -> Result<Option<String>, Fault> {
         let left = self
             .input
@@ -148,10 +154,10 @@ impl Input {
             return Err(self.fault("a code of no bits has no samples".into()));
         }
         let what = format!("block {number}");
-        let mut line = String::new();
+        let (mut line, separator) = (String::new(), if matrix.n == 2 { ';' } else { ',' });
         for at in 0..matrix.n {
             if at > 0 {
-                line.push(',');
+                line.push(separator);
             }
             line += &number::write(self.float(&what)?);
         }

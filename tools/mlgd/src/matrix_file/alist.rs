@@ -97,7 +97,8 @@ impl<'a> Alist<'a> {
         if let Some(at) = weights.iter().position(|weight| weight.0 != first) {
             let (weight, (line, field)) = weights[at];
             let said = format!(
-                "{what} {} has weight {weight} and {what} 1 has {first}: the decoder takes {what}s of one weight",
+                "{what} {} has weight {weight} and {what} 1 has {first}: \
+                 the decoder takes {what}s of one weight",
                 at + 1
             );
             let place = self.text.place(line);
@@ -123,7 +124,8 @@ impl<'a> Alist<'a> {
             return Ok(());
         }
         let what = format!(
-            "{n} columns of weight {gamma} have {by_columns} ones, {m} rows of weight {rho} have {by_rows}"
+            "{n} columns of weight {gamma} have {by_columns} ones, \
+             {m} rows of weight {rho} have {by_rows}"
         );
         let place = self.text.place(at.0);
         Err(place.at(at.1, what, "correct the sizes or the weights"))
@@ -190,10 +192,8 @@ impl<'a> Alist<'a> {
             }
         }
         if places.len() != usize::from(weight) {
-            let said = format!(
-                "{what} {number} has {} {others}s, and its weight is {weight}",
-                places.len()
-            );
+            let has = places.len();
+            let said = format!("{what} {number} has {has} {others}s, and its weight is {weight}");
             return Err(self
                 .text
                 .of_line(line, said, "correct the line or the weight"));

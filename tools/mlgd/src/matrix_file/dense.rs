@@ -7,39 +7,35 @@ use crate::text::{Line, Text};
 pub(super) fn read(text: &Text) -> Result<MatrixFile, Fault> {
     let first = ones(&text.lines[0]);
     let n = width(&text.lines[0]);
+    if u16::try_from(n.max(text.lines.len())).is_err() {
+        let what = format!("{n} columns and {} rows are too many", text.lines.len());
+        return Err(text.at_end(what, "the decoder takes up to 1023 of each"));
+    }
     let (mut list, mut entries) = (Vec::new(), Vec::new());
     for (i, line) in text.lines.iter().enumerate() {
         let ones = ones(line);
         if width(line) != n || ones.len() != first.len() {
+            let (row, width, ones, rho) = (i + 1, width(line), ones.len(), first.len());
             let what = format!(
-                "row {} has {} places and {} ones, row 1 has {n} and {}: the decoder takes rows of one weight",
-                i + 1,
-                width(line),
-                ones.len(),
-                first.len()
+                "row {row} has {width} places and {ones} ones, row 1 has {n} and {rho}: \
+                 the decoder takes rows of one weight"
             );
             return Err(text.of_line(line, what, "is a number missing, or one too many?"));
-        }
-        let fits = u16::try_from(n).is_ok() && u16::try_from(text.lines.len()).is_ok();
-        if !fits {
-            let what = format!("{n} columns and {} rows are too many", text.lines.len());
-            return Err(text.of_line(line, what, "the decoder takes up to 1023 of each"));
         }
         entries.extend(ones.iter().map(|column| (line.number, column + 1)));
         list.extend(ones.iter().map(|&column| column as u16));
     }
     let gamma = weight_of_columns(text, n, &list, 1)?;
-    let matrix = Matrix {
-        n: n as u16,
-        m: text.lines.len() as u16,
-        rho: first.len() as u16,
-        gamma,
-        list,
-    };
     Ok(MatrixFile {
         file: text.file.clone(),
         form: Form::Dense,
-        matrix,
+        matrix: Matrix {
+            n: n as u16,
+            m: text.lines.len() as u16,
+            rho: first.len() as u16,
+            gamma,
+            list,
+        },
         first: 1,
         sizes: [None; 4],
         entries,

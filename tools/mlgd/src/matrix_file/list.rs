@@ -3,7 +3,7 @@
 use super::rows::Entries;
 use super::{Form, Matrix, MatrixFile};
 use crate::fault::Fault;
-use crate::text::Text;
+use crate::text::{Line, Text};
 
 pub(super) fn read(text: &Text, from_one: bool) -> Result<MatrixFile, Fault> {
     let (first, rows) = (&text.lines[0], &text.lines[1..]);
@@ -12,19 +12,42 @@ pub(super) fn read(text: &Text, from_one: bool) -> Result<MatrixFile, Fault> {
         sizes[at] = text.whole(first, at, what, u16::MAX)?;
     }
     let [n, m, rho, gamma] = sizes;
-    let count = if rho == 0 { 0 } else { usize::from(m) };
     let mut read = Entries::new(text, from_one);
+    entries(text, rows, (m, rho), &mut read)?;
+    let list = read.list;
+    let matrix = Matrix {
+        n,
+        m,
+        rho,
+        gamma,
+        list,
+    };
+    Ok(MatrixFile {
+        file: text.file.clone(),
+        form: Form::List,
+        matrix,
+        first: read.first,
+        sizes: [1, 2, 3, 4].map(|field| Some((first.number, field))),
+        entries: read.entries,
+    })
+}
+
+/// The columns of m rows.
+fn entries(
+    text: &Text,
+    rows: &[Line],
+    (m, rho): (u16, u16),
+    read: &mut Entries,
+) -> Result<(), Fault> {
+    let count = if rho == 0 { 0 } else { usize::from(m) };
     for (i, row) in rows.iter().enumerate() {
         if i == count {
             let what = format!("a line after the {count} rows that m says");
             return Err(text.of_line(row, what, "correct m, or take the line away"));
         }
         if row.len() != usize::from(rho) {
-            let what = format!(
-                "row {} has {} columns, and rho is {rho}",
-                i + read.first,
-                row.len()
-            );
+            let (i, has) = (i + read.first, row.len());
+            let what = format!("row {i} has {has} columns, and rho is {rho}");
             return Err(text.of_line(row, what, "is a number missing, or one too many?"));
         }
         read.row(row)?;
@@ -33,20 +56,7 @@ pub(super) fn read(text: &Text, from_one: bool) -> Result<MatrixFile, Fault> {
         let what = format!("the list ends after {} of {m} rows", rows.len());
         return Err(text.at_end(what, "correct m, or add the rows"));
     }
-    Ok(MatrixFile {
-        file: text.file.clone(),
-        form: Form::List,
-        matrix: Matrix {
-            n,
-            m,
-            rho,
-            gamma,
-            list: read.list,
-        },
-        first: read.first,
-        sizes: [1, 2, 3, 4].map(|field| Some((first.number, field))),
-        entries: read.entries,
-    })
+    Ok(())
 }
 
 #[cfg(test)]

@@ -21,19 +21,10 @@ pub(super) fn read(text: &Text, from_one: bool) -> Result<MatrixFile, Fault> {
     }
     let n = usize::from(read.list.iter().copied().max().unwrap_or(0)) + 1;
     let gamma = weight_of_columns(text, n, &read.list, read.first)?;
-    let size = |size: usize, what: &str| {
-        let above = || {
-            text.at_end(
-                format!("{what}: {size} is above 65535"),
-                "is this the right file?",
-            )
-        };
-        u16::try_from(size).map_err(|_| above())
-    };
     let matrix = Matrix {
-        n: size(n, "n")?,
-        m: size(text.lines.len(), "m")?,
-        rho: size(rho, "rho")?,
+        n: size(text, n, "n")?,
+        m: size(text, text.lines.len(), "m")?,
+        rho: size(text, rho, "rho")?,
         gamma,
         list: read.list,
     };
@@ -44,6 +35,14 @@ pub(super) fn read(text: &Text, from_one: bool) -> Result<MatrixFile, Fault> {
         first: read.first,
         sizes: [None; 4],
         entries: read.entries,
+    })
+}
+
+/// A size that goes into 16 bits.
+fn size(text: &Text, size: usize, what: &str) -> Result<u16, Fault> {
+    u16::try_from(size).map_err(|_| {
+        let what = format!("{what}: {size} is above 65535");
+        text.at_end(what, "is this the right file?")
     })
 }
 

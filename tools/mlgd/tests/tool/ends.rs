@@ -1,8 +1,6 @@
 //! How the tool ends: statuses, full disks, lost lines, help.
 
-mod common;
-
-use common::{program, Folder, SETTING};
+use crate::common::{program, Folder, SETTING};
 use generator::{alist, codes};
 use std::fs;
 use std::os::unix::fs::PermissionsExt;
@@ -77,9 +75,15 @@ fn a_full_disk() {
             ran.said
         );
     }
+}
+
+/// The same of what goes to standard output.
+#[test]
+fn a_full_disk_behind_standard_output() {
+    let folder = folder("full-output", GOOD);
     for words in ["--help", "--version", "matrix h"] {
         let full = fs::File::options().write(true).open("/dev/full").unwrap();
-        let mut command = std::process::Command::new(common::TOOL);
+        let mut command = std::process::Command::new(crate::common::TOOL);
         command
             .args(words.split(' '))
             .current_dir(&folder.0)
@@ -128,7 +132,15 @@ fn lost_lines() {
         assert!(ran.said.contains(what), "{}", ran.said);
         assert!(!folder.has("r"));
     }
+}
+
+/// Programs that fail, or are not there.
+#[test]
+fn lost_programs() {
+    let folder = folder("lost-programs", GOOD);
     folder.write("fake", "#!/bin/sh\nexit 3\n");
+    let executable = fs::Permissions::from_mode(0o755);
+    fs::set_permissions(folder.0.join("fake"), executable).unwrap();
     let ran = folder.decode("fake", SETTING, &[]);
     assert!(
         ran.status == 2 && ran.said.contains("it ended with exit status: 3"),
@@ -157,6 +169,11 @@ fn help_and_version() {
         assert_eq!((ran.status, ran.said.as_str()), (0, ""), "{words:?}");
         assert!(ran.text().starts_with(begins), "{}", ran.text());
     }
+}
+
+#[test]
+fn command_lines_that_cannot_be_followed() {
+    let folder = folder("misused", GOOD);
     for (words, message) in [
         (&[][..], "mlgd: a subcommand is missing, see mlgd --help\n"),
         (
@@ -256,7 +273,13 @@ fn one_step() {
     assert_eq!(rows[0], "1,0,decoded,1,0,1,1,yes,,x0000");
     let failed = "more than 1 bit was wrong: 4 checks still fail: send the block again";
     assert_eq!(rows[1], format!("2,1,failed,1,4,4,4,no,{failed},x5000"));
+}
 
+/// The same on the hard bits of samples.
+#[test]
+fn one_step_on_samples() {
+    let folder = Folder::new("one-step-samples");
+    folder.write("a", alist::text(&codes::code_a()));
     folder.write("y", "1,-1,0.2,-1,1,3,1\nnan,1,1,1,1,1,1\n");
     let words = [
         "decode",
@@ -271,7 +294,7 @@ fn one_step() {
     let ran = folder.run(&words);
     assert_eq!(ran.status, 1);
     assert!(
-        ran.said.contains("one-step voting undoes any t wrong bits"),
+        ran.said.contains("one-step voting carries the promise"),
         "{}",
         ran.said
     );

@@ -1,8 +1,6 @@
 //! There and back: matrices through every form, inputs through pack and unpack.
 
-mod common;
-
-use common::{csv, Folder};
+use crate::common::{csv, Folder};
 use generator::codes::{self, Code};
 use generator::{alist, example, inputs, settings, stream, Random};
 use mlgd::matrix_file::{Matrix, MatrixFile};
@@ -97,11 +95,6 @@ fn every_whole_input() {
         match unpacked(&name, &bytes) {
             Ok((matrix, setting, samples)) => {
                 let setting = Setting::open(&setting.to_string()).unwrap();
-                // A comma between two whole numbers could be a decimal comma: only for n = 2.
-                let samples = match matrix.n {
-                    2 => samples.replace(',', " "),
-                    _ => samples,
-                };
                 assert_eq!(packed(&matrix, &setting, &samples), bytes, "{name}");
                 if matrix.m > 0 && matrix.rho > 1 {
                     let back = MatrixFile::of("h", &matrix.plain());
@@ -214,6 +207,6 @@ fn the_examples_are_packed() {
     let (matrix, samples, setting) = ("tanner155.alist", "blocks.csv", example::SETTING);
     let mut words = vec!["pack", "--setting", setting];
     words.extend(["--matrix", matrix, "--samples", samples]);
-    let ran = common::ran(&common::root().join("examples"), &words);
+    let ran = crate::common::ran(&crate::common::root().join("examples"), &words);
     assert_eq!(ran.printed, example::input());
 }

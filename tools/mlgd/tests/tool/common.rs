@@ -1,7 +1,5 @@
 //! A folder of files for one test, and the tool run in it.
 
-#![allow(dead_code)]
-
 use std::fs;
 use std::io::Write;
 use std::path::{Path, PathBuf};

@@ -1,8 +1,6 @@
 //! Whole files against the reference decoder: every line of the table.
 
-mod common;
-
-use common::{csv, program, Folder};
+use crate::common::{csv, program, Folder};
 use generator::codes::{self, Code};
 use generator::{alist, inputs, settings, stream, Codewords, Random};
 use mlgd::results::{Outcome, Row, Table, COLUMNS};
@@ -157,7 +155,7 @@ fn strong_wrong_samples_within_the_half() {
         }
         folder.write("h", alist::text(&code));
         folder.write("y", csv(&blocks));
-        let ran = folder.decode(&program, common::SETTING, &[]);
+        let ran = folder.decode(&program, crate::common::SETTING, &[]);
         assert_eq!(ran.status, 0, "{}: {ran:?}", code.name);
         for (at, (row, sent)) in rows(&folder, "r").iter().zip(&sent).enumerate() {
             let counts = row.counts.as_ref().unwrap();
@@ -165,7 +163,7 @@ fn strong_wrong_samples_within_the_half() {
             assert_eq!((&counts.word, counts.wrong_bits), (sent, at % (t + 1)));
         }
         assert!(
-            ran.said.contains("limit 64 undoes any t wrong bits"),
+            ran.said.contains("limit 64 carries the promise"),
             "{}",
             ran.said
         );
@@ -186,9 +184,9 @@ fn the_summary() {
     assert_eq!(
         ran.said,
         "2 blocks: 2 decoded (2 within the half, 0 beyond it), 0 failed, 0 refused\n\
-         n 9, m 6, rho 3, gamma 2, t 1, blocks 2, samples at level 0: 1; limit 30 promises \
-         nothing: limit 64 (L / 2 + 1) undoes any t wrong bits; gamma is even: count on t - 1 in \
-         the 1 blocks where a sample above 0 has level 0\n"
+         n 9, m 6, rho 3, gamma 2, t 1, blocks 2, samples at level 0: 1; limit 30 does not carry \
+         the promise: limit 64 (L / 2 + 1) does; gamma is even: blocks where a sample above 0 has \
+         level 0, so that they carry it for t - 1: 1\n"
     );
 }
 

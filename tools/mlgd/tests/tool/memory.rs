@@ -1,9 +1,7 @@
 //! 200,000 blocks: split over several runs, numbered through, the same for any number of jobs, in
 //! memory that does not grow with them.
 
-mod common;
-
-use common::{program, Folder, TOOL};
+use crate::common::{program, Folder, TOOL};
 use std::fmt::Write;
 use std::fs;
 use std::process::{Command, Stdio};
@@ -31,7 +29,13 @@ fn children(process: u32) -> Vec<String> {
 /// Runs the tool; the most memory that it and a program of its own have had, in kB.
 fn measured(folder: &Folder, program: &str, samples: &str, out: &str, jobs: &str) -> (u64, u64) {
     let mut child = Command::new(TOOL)
-        .args(["decode", "--matrix", "h", "--setting", common::SETTING])
+        .args([
+            "decode",
+            "--matrix",
+            "h",
+            "--setting",
+            crate::common::SETTING,
+        ])
         .args([
             "--samples",
             samples,

@@ -1,9 +1,7 @@
 //! Every message, from a stored bad file: tests/bad has the files, and for each case NAME.expected
 //! with the command line and what the tool is to say. WRITE_EXPECTED=1 writes them anew.
 
-mod common;
-
-use common::ran;
+use crate::common::ran;
 use std::fs;
 use std::path::Path;
 

@@ -1,0 +1,8 @@
+//! The tool as its users run it, in one test program.
+
+mod common;
+mod ends;
+mod memory;
+mod messages;
+mod round_trips;
+mod table;
