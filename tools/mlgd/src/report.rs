@@ -192,8 +192,8 @@ impl Totals {
         };
         if promise.needs_levels() {
             line += &format!(
-                "; gamma is even: blocks where a sample above 0 has level 0, so that they carry \
-                 it for t - 1: {}",
+                "; gamma is even: it holds for t - 1 in the blocks with a sample above 0 at \
+                 level 0, which are {}",
                 self.weak_blocks
             );
         }

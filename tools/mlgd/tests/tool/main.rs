@@ -1,5 +1,6 @@
 //! The tool as its users run it, in one test program.
 
+mod chance;
 mod common;
 mod ends;
 mod memory;

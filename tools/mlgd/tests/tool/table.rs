@@ -39,43 +39,30 @@ fn compare(row: &Row, line: &str, samples: &[f32], code: &Code, at: usize) {
     assert_eq!((row.line, row.block), (at + 1, at), "{}", code.name);
     assert_eq!(row.outcome.shown(), fields[1], "{}", code.name);
     let Some(counts) = &row.counts else {
-        let place: usize = fields[3].parse().unwrap();
-        assert!(!row.within_half && !samples[place].is_finite());
-        let kind = if samples[place].is_nan() {
-            "not a number"
-        } else {
-            "infinite"
-        };
-        let column = mlgd::fields::column_letters(place + 1);
-        let reason = format!(
-            "sample {} (column {column}) is {kind}: send the block again",
-            place + 1
-        );
-        assert_eq!(row.reason, reason);
-        return;
+        return compare_refused(row, samples, fields[3].parse().unwrap());
     };
-    let word: String = counts
-        .word
-        .iter()
-        .map(|byte| format!("{byte:02x}"))
-        .collect();
-    let found = [counts.rounds, counts.failing, counts.changed].map(|count| count.to_string());
-    assert_eq!(
-        (&found[..], word.as_str()),
-        (
-            &fields[2..5]
-                .iter()
-                .map(|f| f.to_string())
-                .collect::<Vec<_>>()[..],
-            fields[5]
-        )
-    );
+    let hex = counts.word.iter().map(|byte| format!("{byte:02x}"));
+    let (rounds, failing, changed) = (counts.rounds, counts.failing, counts.changed);
+    let found = format!("{rounds} {failing} {changed} {}", hex.collect::<String>());
+    assert_eq!(found, fields[2..].join(" "), "{}", code.name);
     let received = pack(&samples.iter().map(|&y| hard_bit(y)).collect::<Vec<_>>());
     assert_eq!(counts.wrong_bits, differing(&counts.word, &received));
     let within =
         row.outcome == Outcome::Decoded && counts.wrong_bits <= usize::from(code.matrix.gamma / 2);
     assert_eq!(row.within_half, within);
     assert_eq!(row.reason.is_empty(), within, "{}", row.reason);
+}
+
+/// A refused block's row.
+fn compare_refused(row: &Row, samples: &[f32], place: usize) {
+    assert!(!row.within_half && !samples[place].is_finite());
+    let kind = match samples[place].is_nan() {
+        true => "not a number",
+        false => "infinite",
+    };
+    let (column, sample) = (mlgd::fields::column_letters(place + 1), place + 1);
+    let reason = format!("sample {sample} (column {column}) is {kind}: send the block again");
+    assert_eq!(row.reason, reason);
 }
 
 /// Decodes blocks by the tool and by the reference.
@@ -185,8 +172,8 @@ fn the_summary() {
         ran.said,
         "2 blocks: 2 decoded (2 within the half, 0 beyond it), 0 failed, 0 refused\n\
          n 9, m 6, rho 3, gamma 2, t 1, blocks 2, samples at level 0: 1; limit 30 does not carry \
-         the promise: limit 64 (L / 2 + 1) does; gamma is even: blocks where a sample above 0 has \
-         level 0, so that they carry it for t - 1: 1\n"
+         the promise: limit 64 (L / 2 + 1) does; gamma is even: it holds for t - 1 in the blocks \
+         with a sample above 0 at level 0, which are 1\n"
     );
 }
 
@@ -195,7 +182,12 @@ fn the_summary() {
 fn a_table_that_was_saved_again() {
     let folder = Folder::new("saved");
     let header = COLUMNS.replace(',', ";");
-    folder.write("r", format!("\u{feff}{header}\r\n5;0;decoded;1;0;1;1;yes;;x2e\r\n6;1;refused;;;;;no;\"a, b; \"\"c\"\"\";\r\n"));
+    let decoded = "5;0;decoded;1;0;1;1;yes;;x2e";
+    let refused = "6;1;refused;;;;;no;\"a, b; \"\"c\"\"\";";
+    folder.write(
+        "r",
+        format!("\u{feff}{header}\r\n{decoded}\r\n{refused}\r\n"),
+    );
     let rows = rows(&folder, "r");
     assert_eq!(
         (rows[0].line, rows[0].counts.as_ref().unwrap().word[0]),
