@@ -1,15 +1,24 @@
 # The shed-link block decoder. `make run` shows it working, `make test` checks everything, `make bench` measures it.
-.PHONY: run test bench fuzz audit prove staticlib reference decode tools
+.PHONY: run test bench fuzz audit prove staticlib mlgd reference decode tools
 
 # Checks of crates and must-fail edits that run at a time, each in about 1 GB: more than the processors, since those of a batch wait for its longest.
 export RT_JOBS ?= 8
 
 N ?= 20
+MATRIX ?= examples/tanner155.alist
+SAMPLES ?= examples/blocks.csv
 SETTING ?= bits 8 limit 64 level-step 0.1
+RESULTS ?= build/results.csv
 
-# Packs the example block set, decodes it, and prints the program's lines.
-run: tools decode
-	cargo run --release --quiet -p pack -- --matrix examples/tanner155.alist --setting "$(SETTING)" --samples examples/blocks.csv | target/bin/decode
+# Decodes SAMPLES by MATRIX and SETTING, the example block set without them, into the table RESULTS.
+# Blocks that stay open (status 1) are no fault.
+run: tools
+	@echo "The first run proves and builds all it needs, which takes about two minutes (build/run.log tells how far it is); later runs take seconds."
+	@mkdir -p build && rt check decode codes record_open record_step one_step failing_checks >build/run.log || { cat build/run.log; exit 1; }
+	@$(MAKE) --no-print-directory target/staticlib/libffi.a mlgd >>build/run.log || { cat build/run.log; exit 1; }
+	build/release/mlgd decode --matrix "$(MATRIX)" --setting "$(SETTING)" --samples "$(SAMPLES)" --out "$(RESULTS)" || test $$? -eq 1
+	@if build/release/mlgd map --help >/dev/null 2>&1; then build/release/mlgd map "$(RESULTS)" --out "$(RESULTS:.csv=.svg)"; fi
+	@head -n 20 "$(RESULTS)"
 
 # The layout, the Rust tests, then the gate: its 'N passed, 0 failed' is the last line.
 # What `ffi` rests on is checked with the program, as `rt staticlib` would check it crate after crate.
@@ -37,9 +46,17 @@ prove: tools
 staticlib:
 	rt staticlib ffi
 
+# The same, unless it is there already.
+target/staticlib/libffi.a: $(wildcard crates/*/src/*.rt)
+	rt staticlib ffi
+
+# The user's tool, which needs the archive: build/release/mlgd.
+mlgd:
+	cargo build --release --quiet -p mlgd
+
 # The Rust that needs no archive: built while the archive is made.
 reference:
-	cargo build --release --quiet -p reference -p generator -p pack
+	cargo build --release --quiet -p reference -p generator
 
 # The program, proved and linked: target/bin/decode.
 decode:

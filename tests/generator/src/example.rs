@@ -5,7 +5,7 @@ use crate::codes::{tanner155, Code};
 use crate::{alist, noise, settings, stream, Codewords, Random};
 use reference::Setting;
 
-/// The setting as the packing tool reads it.
+/// The setting as the tool `mlgd` reads it.
 pub const SETTING: &str = "bits 8 limit 64 level-step 0.1";
 
 /// The noise of each block: none, some, and one block that is past help.

@@ -1,0 +1,210 @@
+//! What the proved library says, in words: the matrix check, the check of a setting, one-step
+//! voting. No verdict is formed here; a refusal is only looked up in the file.
+
+use crate::fault::Fault;
+use crate::matrix_file::{At, Form, Matrix, MatrixFile, COUNTED_FROM_1};
+use crate::setting::Setting;
+use ffi_face::{LentMatrix, Packed};
+
+impl<'a> From<&'a Matrix> for LentMatrix<'a> {
+    fn from(h: &'a Matrix) -> LentMatrix<'a> {
+        LentMatrix {
+            n: h.n,
+            m: h.m,
+            rho: h.rho,
+            gamma: h.gamma,
+            list: &h.list,
+        }
+    }
+}
+
+/// The proved matrix check. A refusal comes with the file's line and a remedy.
+pub fn matrix(file: &MatrixFile) -> Result<(), Fault> {
+    let answer = ffi_face::check((&file.matrix).into());
+    let place = answer.place() as usize;
+    match answer.refusal() {
+        0 => Ok(()),
+        1 => Err(sizes(file)),
+        3 => Err(entry(file, place)),
+        4 => Err(weight(file, place)),
+        5 => Err(overlap(file, place)),
+        number => Err(Fault::new(
+            &file.file,
+            format!("refusal {number} at {place}"),
+        )),
+    }
+}
+
+/// A fault at a place of the file, if it has that place.
+fn at(file: &MatrixFile, place: Option<At>, what: String, remedy: &str) -> Fault {
+    let fault = Fault::new(&file.file, what).remedy(remedy);
+    match place {
+        Some((line, field)) => fault.line(line).field(field),
+        None => fault,
+    }
+}
+
+/// Refusal 1: which size it is.
+fn sizes(file: &MatrixFile) -> Fault {
+    let h = &file.matrix;
+    for (k, (size, value, least, most, what)) in [
+        ("n", h.n, 2, 1023, "columns"),
+        ("m", h.m, 1, 1023, "rows"),
+        ("rho", h.rho, 2, 32, "ones in each row"),
+        ("gamma", h.gamma, 1, 32, "ones in each column"),
+    ]
+    .into_iter()
+    .enumerate()
+    {
+        if !(least..=most).contains(&value) {
+            let what = format!("{size} is {value}: the decoder takes {least} to {most} {what}");
+            return at(file, file.sizes[k], what, "take another code");
+        }
+    }
+    let ones = |a: u16, b: u16| u32::from(a) * u32::from(b);
+    let (rows, columns) = (ones(h.m, h.rho), ones(h.n, h.gamma));
+    let what = format!("m × rho is {rows} and n × gamma is {columns}: both count the ones");
+    at(file, file.sizes[0], what, "correct the sizes")
+}
+
+/// Refusal 3: an entry not below n, or not above the one before it.
+fn entry(file: &MatrixFile, index: usize) -> Fault {
+    let h = &file.matrix;
+    let (place, entry) = (file.entries.get(index).copied(), h.list[index]);
+    let shown = |entry: u16| usize::from(entry) + file.first;
+    if entry >= h.n {
+        let what = format!("column {} is not below n = {}", shown(entry), h.n);
+        let from_one = entry == h.n && !h.list.contains(&0) && file.form == Form::List;
+        let remedy = match from_one {
+            true => COUNTED_FROM_1,
+            false => "correct n or the column",
+        };
+        return at(file, place, what, remedy);
+    }
+    let before = shown(h.list[index - 1]);
+    let (entry, what) = (shown(entry), "not above the one before it in its row");
+    let remedy = match entry == before {
+        true => "a column stands once in a row",
+        false => "sort the row",
+    };
+    at(
+        file,
+        place,
+        format!("column {entry} after {before} is {what}"),
+        remedy,
+    )
+}
+
+/// Refusal 4: a column's weight is not gamma.
+fn weight(file: &MatrixFile, column: usize) -> Fault {
+    let h = &file.matrix;
+    let stands = |&index: &usize| usize::from(h.list[index]) == column;
+    let found: Vec<usize> = (0..h.list.len()).filter(stands).collect();
+    let what = format!(
+        "column {} stands in {} rows, and gamma is {}",
+        column + file.first,
+        found.len(),
+        h.gamma
+    );
+    let remedy = match (found.len(), file.first) {
+        (0, 0) => COUNTED_FROM_1,
+        _ => "each column stands in gamma rows",
+    };
+    let place = found
+        .last()
+        .and_then(|&index| file.entries.get(index).copied());
+    at(file, place, what, remedy)
+}
+
+/// Refusal 5: two rows share two columns or more.
+fn overlap(file: &MatrixFile, row: usize) -> Fault {
+    let rows: Vec<&[u16]> = file.matrix.rows().collect();
+    let shared = |other: usize| -> Vec<String> {
+        let common = rows[row]
+            .iter()
+            .filter(|column| rows[other].contains(column));
+        common
+            .map(|&column| (usize::from(column) + file.first).to_string())
+            .collect()
+    };
+    let other = (row + 1..rows.len()).find(|&other| shared(other).len() >= 2);
+    let other = other.unwrap_or(row);
+    let what = format!(
+        "rows {} and {} (lines {} and {}) share columns {}",
+        row + file.first,
+        other + file.first,
+        file.line_of_row(row),
+        file.line_of_row(other),
+        shared(other).join(" and ")
+    );
+    let remedy = "take another code: with two columns in common the promise does not hold";
+    Fault::new(&file.file, what)
+        .line(file.line_of_row(row))
+        .remedy(remedy)
+}
+
+/// A setting that the proved check accepts, from an option's value: by the quantiser on no
+/// samples.
+pub fn setting(value: &str) -> Result<Setting, Fault> {
+    let setting = Setting::open(value)?;
+    accepted(&setting, Setting::name(value))?;
+    Ok(setting)
+}
+
+fn accepted(setting: &Setting, name: &str) -> Result<(), Fault> {
+    let lent = reference::Setting {
+        bits: setting.bits.into(),
+        limit: setting.limit.into(),
+        kind: setting.kind.into(),
+        step: setting.step,
+    };
+    if ffi_face::quantise(&lent, &[], &mut [], &mut []).refusal() == 0 {
+        return Ok(());
+    }
+    let (what, remedy) = match setting {
+        Setting {
+            bits: ..=1 | 9.., ..
+        } => (
+            format!("bits is 2 to 8, and not {}", setting.bits),
+            "correct it",
+        ),
+        Setting { kind: 2.., .. } => (
+            format!("the kind of step is {}", setting.kind),
+            "give level-step or full-scale",
+        ),
+        _ => (
+            format!("the step is from 2^-20 to 2^20, and not {}", setting.step),
+            "scale samples and step alike",
+        ),
+    };
+    Err(Fault::new(name, what).remedy(remedy))
+}
+
+/// An answer of voting.
+#[derive(Clone, Copy, Debug, PartialEq, Eq)]
+pub struct Answer {
+    pub decoded: bool,
+    pub rounds: usize,
+    pub failing: usize,
+    pub changed: usize,
+}
+
+/// Proved one-step voting. The refusal's number where it is refused.
+pub fn one_step(matrix: &Matrix, received: &[u8], word: &mut [u8]) -> Result<Answer, u64> {
+    let answer = ffi_face::one_step(matrix.into(), received, word);
+    match answer.refusal() {
+        0 => Ok(answer_of(answer)),
+        number => Err(number),
+    }
+}
+
+/// The counts of an answer: rounds in 8 bits, failing in 12, changed in 12.
+fn answer_of(answer: Packed) -> Answer {
+    let counts = answer.0 >> 32;
+    Answer {
+        decoded: answer.place() == 0,
+        rounds: (counts % 256) as usize,
+        failing: (counts / 256 % 4096) as usize,
+        changed: (counts / 256 / 4096) as usize,
+    }
+}

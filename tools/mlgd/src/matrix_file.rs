@@ -1,0 +1,251 @@
+//! A parity-check matrix from a file: alist, a plain list with its sizes, bare rows, or zeros and
+//! ones. Whether it is accepted is for the proved check to say: see [`crate::checked`].
+
+mod alist;
+mod dense;
+mod list;
+mod rows;
+mod write;
+
+use crate::fault::Fault;
+use crate::text::{Line, Text};
+
+/// Sizes and list, as the program reads them.
+#[derive(Clone, Debug, PartialEq, Eq)]
+pub struct Matrix {
+    pub n: u16,
+    pub m: u16,
+    pub rho: u16,
+    pub gamma: u16,
+    pub list: Vec<u16>,
+}
+
+impl Matrix {
+    /// How many wrong bits are always undone: t, half of gamma rounded down.
+    pub fn guaranteed(&self) -> usize {
+        usize::from(self.gamma / 2)
+    }
+
+    /// The bytes of a word.
+    pub fn word_bytes(&self) -> usize {
+        usize::from(self.n).div_ceil(8)
+    }
+
+    /// The columns of each row.
+    pub fn rows(&self) -> std::slice::Chunks<'_, u16> {
+        self.list.chunks(usize::from(self.rho).max(1))
+    }
+}
+
+/// How a file writes a matrix.
+#[derive(Clone, Copy, Debug, PartialEq, Eq)]
+pub enum Form {
+    /// MacKay's: sizes, weights, the rows of each column, the columns of each row, from 1.
+    Alist,
+    /// n m rho gamma, then the columns of each row, from 0.
+    List,
+    /// The columns of each row, from 0.
+    Rows,
+    /// Zeros and ones.
+    Dense,
+}
+
+impl Form {
+    pub fn shown(self) -> &'static str {
+        match self {
+            Form::Alist => "alist",
+            Form::List => "a list with sizes",
+            Form::Rows => "rows without sizes",
+            Form::Dense => "zeros and ones",
+        }
+    }
+}
+
+/// Line and field, both from 1.
+pub(crate) type At = (usize, usize);
+
+/// A matrix and where its parts stand in the file.
+#[derive(Clone, Debug)]
+pub struct MatrixFile {
+    pub file: String,
+    pub form: Form,
+    pub matrix: Matrix,
+    /// What the file calls the first row and column: 0 or 1.
+    pub(crate) first: usize,
+    /// Where n, m, rho and gamma stand, if they do.
+    pub(crate) sizes: [Option<At>; 4],
+    /// Where each entry of the list stands.
+    pub(crate) entries: Vec<At>,
+}
+
+impl MatrixFile {
+    /// Reads a file of any form. With `from_one` the columns of a list or of bare rows are
+    /// counted from 1.
+    pub fn open(file: &str, from_one: bool) -> Result<MatrixFile, Fault> {
+        MatrixFile::read(&Text::open(file)?, from_one)
+    }
+
+    pub(crate) fn read(text: &Text, from_one: bool) -> Result<MatrixFile, Fault> {
+        let form = form_of(text)?;
+        if from_one && matches!(form, Form::Alist | Form::Dense) {
+            let what = format!(
+                "this file is {}, which --from-one does not fit",
+                form.shown()
+            );
+            return Err(Fault::new(&text.file, what).remedy("leave --from-one out"));
+        }
+        match form {
+            Form::Alist => alist::read(text),
+            Form::List => list::read(text, from_one),
+            Form::Rows => rows::read(text, from_one),
+            Form::Dense => dense::read(text),
+        }
+    }
+
+    /// The same from a text at hand.
+    pub fn of(file: &str, contents: &str) -> Result<MatrixFile, Fault> {
+        MatrixFile::read(&Text::of(file, contents)?, false)
+    }
+
+    /// The line of a row, counted from 0.
+    pub(crate) fn line_of_row(&self, row: usize) -> usize {
+        let at = row * usize::from(self.matrix.rho);
+        self.entries.get(at).map_or(1, |at| at.0)
+    }
+
+    /// "n 155, m 93, rho 5, gamma 3, t 1"
+    pub fn summary(&self) -> String {
+        let h = &self.matrix;
+        let (n, m, rho, gamma, t) = (h.n, h.m, h.rho, h.gamma, h.guaranteed());
+        format!("n {n}, m {m}, rho {rho}, gamma {gamma}, t {t}")
+    }
+}
+
+/// A line's fields as numbers, if all are.
+fn numbers(line: &Line) -> Option<Vec<u64>> {
+    line.fields().map(|field| field.parse().ok()).collect()
+}
+
+/// Whether a line consists of zeros and ones alone.
+fn zeros_and_ones(line: &Line) -> bool {
+    let bits = |field: &str| field.bytes().all(|byte| byte == b'0' || byte == b'1');
+    line.fields().all(bits) && (line.len() == 1 || line.fields().all(|field| field.len() == 1))
+}
+
+/// Tells the forms apart. An accepted list's first line never ascends: rho is at most n.
+fn form_of(text: &Text) -> Result<Form, Fault> {
+    let Some(first) = text.lines.first() else {
+        return Err(text.at_end("a matrix is missing".into(), "is this the right file?"));
+    };
+    if text.lines.iter().all(zeros_and_ones) {
+        if text.lines.iter().all(|line| line.fields().eq(["0", "1"])) {
+            let what = "`0 1` could be columns or bits".to_string();
+            let remedy = "write n m rho gamma on a line before it";
+            return Err(text.of_line(first, what, remedy));
+        }
+        return Ok(Form::Dense);
+    }
+    let alike = text.lines.iter().all(|line| line.len() == first.len());
+    let head = numbers(first).unwrap_or_default();
+    let ascends = head.windows(2).all(|pair| pair[0] < pair[1]);
+    match head[..] {
+        [_, _] if !(alike && ascends) => Ok(Form::Alist),
+        [n, m, rho, gamma] => {
+            let counted =
+                m == text.lines.len() as u64 - 1 || m.checked_mul(rho) == n.checked_mul(gamma);
+            let sizes = !ascends && (counted || !alike);
+            Ok(if sizes { Form::List } else { Form::Rows })
+        }
+        _ => Ok(Form::Rows),
+    }
+}
+
+/// The gamma that the ones of all rows make, if the columns can have one weight.
+fn weight_of_columns(text: &Text, n: usize, rows: &[u16], counted: usize) -> Result<u16, Fault> {
+    let gamma = rows.len() / n.max(1);
+    if rows.len() == gamma * n {
+        let too_many = || text.at_end("there are too many rows".into(), "is this the right file?");
+        return u16::try_from(gamma).map_err(|_| too_many());
+    }
+    let mut weights = vec![0; n];
+    for &column in rows {
+        weights[usize::from(column)] += 1;
+    }
+    let other = weights
+        .iter()
+        .position(|&weight| weight != weights[0])
+        .unwrap_or(0);
+    let what = format!(
+        "column {counted} stands in {} rows and column {} in {}: \
+         the decoder takes columns of one weight",
+        weights[0],
+        other + counted,
+        weights[other]
+    );
+    let remedy = match weights[0] {
+        0 => COUNTED_FROM_1,
+        _ => "take a regular code",
+    };
+    Err(Fault::new(&text.file, what).remedy(remedy))
+}
+
+pub(crate) const COUNTED_FROM_1: &str = "counted from 1? Then give --from-one";
+
+#[cfg(test)]
+mod tests {
+    use super::{Form, Matrix, MatrixFile};
+
+    fn triangle() -> Matrix {
+        Matrix {
+            n: 3,
+            m: 3,
+            rho: 2,
+            gamma: 2,
+            list: vec![0, 1, 1, 2, 0, 2],
+        }
+    }
+
+    #[test]
+    fn every_form() {
+        let alist = "3 3\n2 2\n2 2 2\n2 2 2\n1 3\n1 2\n2 3\n1 2\n2 3\n1 3\n";
+        for (contents, form) in [
+            (alist, Form::Alist),
+            (
+                "3 3 # n m\n2 2\n2 2 2\n2 2 2\n\n3 1 0 0\n1 2\n2 3\n2,1\n3,2\n3,1\n",
+                Form::Alist,
+            ),
+            ("3 3 2 2\n0 1\n1 2\n0 2\n", Form::List),
+            ("0 1\n1 2\n0 2\n", Form::Rows),
+            ("1 1 0\n0 1 1\n1 0 1\n", Form::Dense),
+            ("110\n011\n101\n", Form::Dense),
+        ] {
+            let file = MatrixFile::of("h", contents).unwrap();
+            assert_eq!((file.form, &file.matrix), (form, &triangle()), "{contents}");
+        }
+        assert_eq!(
+            MatrixFile::of("h", alist).unwrap().matrix.alist().unwrap(),
+            alist
+        );
+    }
+
+    /// Rows of four columns are no sizes, whatever stands first.
+    #[test]
+    fn rows_of_four() {
+        let rows = "0 1 2 3\n4 5 6 7\n";
+        let file = MatrixFile::of("h", rows).unwrap();
+        assert_eq!(
+            (file.form, file.matrix.n, file.matrix.gamma),
+            (Form::Rows, 8, 1)
+        );
+        assert_eq!(file.matrix.bare_rows(), rows);
+        let file = MatrixFile::of("h", "8 2 4 1\n0 1 2 3\n4 5 6 7\n").unwrap();
+        assert_eq!((file.form, file.matrix.m), (Form::List, 2));
+    }
+
+    #[test]
+    fn what_has_no_form() {
+        let message = |contents: &str| MatrixFile::of("h", contents).unwrap_err().to_string();
+        assert!(message("").starts_with("h:1: a matrix is missing"));
+        assert!(message("0 1\n").starts_with("h:1: `0 1` could be columns or bits"));
+    }
+}

@@ -1,0 +1,141 @@
+//! `mlgd decode --one-step`: one-step voting on received words, by the proved library.
+
+use crate::arguments::Arguments;
+use crate::checked;
+use crate::decode::{accepted, form, once_standard_input};
+use crate::fault::Fault;
+use crate::matrix_file::Matrix;
+use crate::output::{refuse_same, Output};
+use crate::progress::Progress;
+use crate::report::{refused, Ended, Promise, Totals};
+use crate::results::{Row, COLUMNS};
+use crate::samples_file::SamplesFile;
+use crate::words_file::WordsFile;
+
+/// Where the words come from.
+enum Source {
+    Words(WordsFile),
+    /// The hard bits of samples.
+    Samples(SamplesFile, Vec<f32>),
+}
+
+/// A received word, or why there is none.
+type Received = Result<Vec<u8>, String>;
+
+impl Source {
+    fn open(arguments: &Arguments, n: u16) -> Result<Source, Fault> {
+        match (arguments.value("--words"), arguments.value("--samples")) {
+            (Some(words), None) => {
+                let header = arguments.flag("--header");
+                Ok(Source::Words(WordsFile::open(words, n, header)?))
+            }
+            (None, Some(samples)) => {
+                let file = SamplesFile::open(samples, n, form(arguments)?)?;
+                Ok(Source::Samples(file, Vec::new()))
+            }
+            _ => Err(arguments.misused("--one-step needs --words or --samples, and one of them")),
+        }
+    }
+
+    /// The next word with its line.
+    fn next(&mut self) -> Result<Option<(usize, Received)>, Fault> {
+        match self {
+            Source::Words(file) => Ok(file.next_word()?.map(|(line, word)| (line, Ok(word)))),
+            Source::Samples(file, samples) => {
+                let line = file.next_block(samples)?;
+                Ok(line.map(|line| (line, hard_bits(samples))))
+            }
+        }
+    }
+
+    fn share(&self) -> Option<f64> {
+        match self {
+            Source::Words(file) => file.share(),
+            Source::Samples(file, _) => file.share(),
+        }
+    }
+}
+
+/// The hard bits of a block as a word; a sample that is not finite has none.
+fn hard_bits(samples: &[f32]) -> Received {
+    if let Some(place) = samples.iter().position(|sample| !sample.is_finite()) {
+        return Err(format!(
+            "sample {} is no finite number: send the block again",
+            place + 1
+        ));
+    }
+    let byte = |eight: &[f32]| {
+        let bits = eight.iter().enumerate();
+        bits.fold(0, |byte, (at, sample)| {
+            byte | u8::from(*sample > 0.0) << (7 - at)
+        })
+    };
+    Ok(samples.chunks(8).map(byte).collect())
+}
+
+/// Decodes all words, writes the table, and tells the totals.
+pub fn run(arguments: &Arguments) -> Result<Totals, Fault> {
+    for name in ["--setting", "--jobs", "--program"] {
+        if arguments.value(name).is_some() {
+            return Err(arguments.misused(format!("{name} does not go with --one-step")));
+        }
+    }
+    once_standard_input(arguments)?;
+    let matrix = accepted(arguments)?;
+    let mut source = Source::open(arguments, matrix.matrix.n)?;
+    let out = arguments.value("--out");
+    let inputs = ["--matrix", "--samples", "--words"].map(|name| arguments.value(name));
+    refuse_same(out, &inputs.map(Option::unwrap_or_default))?;
+    let mut output = Output::create(out)?;
+    output.write(format!("{COLUMNS}\n").as_bytes())?;
+    let promise = Promise::one_step(&matrix.matrix);
+    let (mut totals, mut progress, mut text) = (Totals::default(), Progress::new(), Vec::new());
+    while let Some((line, received)) = source.next()? {
+        let row = voted(&matrix.matrix, &promise, line, totals.blocks, received);
+        totals.count(&row);
+        text.clear();
+        row.put(&mut text);
+        output.write(&text)?;
+        progress.show(source.share(), totals.blocks);
+    }
+    progress.clear();
+    if totals.blocks == 0 {
+        return Err(arguments.misused("there is no word in the file"));
+    }
+    output.finish()?;
+    eprintln!("{}", totals.outcomes());
+    eprintln!("{}", totals.summary(&matrix.summary(), &promise));
+    Ok(totals)
+}
+
+/// One word's row.
+fn voted(matrix: &Matrix, promise: &Promise, line: usize, block: usize, received: Received) -> Row {
+    let received = match received {
+        Ok(received) => received,
+        Err(reason) => return refused(line, block, reason),
+    };
+    let mut word = vec![0; matrix.word_bytes()];
+    match checked::one_step(matrix, &received, &mut word) {
+        Ok(answer) => {
+            let differing = word
+                .iter()
+                .zip(&received)
+                .map(|(a, b)| (a ^ b).count_ones() as usize);
+            let ended = Ended {
+                wrong_bits: differing.sum(),
+                word,
+                weak: false,
+            };
+            promise.row(line, block, answer, ended)
+        }
+        Err(9) => {
+            let spare = 8 * matrix.word_bytes() - usize::from(matrix.n);
+            refused(
+                line,
+                block,
+                format!("one of the last {spare} places of the last byte is not 0"),
+            )
+        }
+        Err(number) => refused(line, block, format!("refusal {number}")),
+    }
+}

@@ -1,0 +1,202 @@
+//! What is proved of a block's outcome, in words, and the totals of a run.
+
+use crate::checked::Answer;
+use crate::matrix_file::Matrix;
+use crate::results::{Counts, Outcome, Row};
+use crate::setting::Setting;
+
+/// The promise that a code and a setting carry: at most t wrong bits are undone.
+#[derive(Clone, Copy, Debug)]
+pub struct Promise {
+    t: usize,
+    even: bool,
+    /// The limit, and the least one that carries the promise; none for one-step voting.
+    limits: Option<(u32, u32)>,
+}
+
+impl Promise {
+    /// Of iterative voting.
+    pub fn iterative(matrix: &Matrix, setting: &Setting) -> Promise {
+        Promise {
+            limits: Some((setting.limit.into(), setting.ample_limit())),
+            ..Promise::one_step(matrix)
+        }
+    }
+
+    /// Of one-step voting, which has no limit.
+    pub fn one_step(matrix: &Matrix) -> Promise {
+        Promise {
+            t: matrix.guaranteed(),
+            even: matrix.gamma.is_multiple_of(2),
+            limits: None,
+        }
+    }
+
+    /// Whether samples of level 0 matter: an even gamma, and voting from samples.
+    fn needs_levels(&self) -> bool {
+        self.even && self.limits.is_some()
+    }
+
+    /// The limit that would carry the promise, where the given one does not.
+    fn missing_limit(&self) -> Option<u32> {
+        self.limits
+            .filter(|(limit, ample)| limit < ample)
+            .map(|(_, ample)| ample)
+    }
+
+    /// How many wrong bits are undone in a block, in words; `weak` says that a bit 1 has level 0.
+    fn more_than(&self, weak: bool) -> String {
+        let lost = usize::from(weak && self.needs_levels());
+        match self.t.saturating_sub(lost) {
+            0 => "a bit was wrong".into(),
+            1 => "more than 1 bit was wrong".into(),
+            t => format!("more than {t} bits were wrong"),
+        }
+    }
+
+    /// Why a block is open to doubt, in words; nothing where it is decoded within the half.
+    fn reason(&self, answer: &Answer, ended: &Ended) -> String {
+        let (wrong, checks) = (self.more_than(ended.weak), checks(answer.failing));
+        match (answer.decoded, self.missing_limit()) {
+            (true, _) if ended.wrong_bits <= self.t => String::new(),
+            (true, _) => format!("{wrong}: not proved to be the block sent"),
+            (false, None) => format!("{wrong}: {checks} still fail: send the block again"),
+            (false, Some(ample)) => format!(
+                "{checks} still fail after {} rounds: \
+                 try a limit of {ample} before you send it again",
+                answer.rounds
+            ),
+        }
+    }
+
+    /// The row of a block that was decoded or failed.
+    pub fn row(&self, line: usize, block: usize, answer: Answer, ended: Ended) -> Row {
+        let within_half = answer.decoded && ended.wrong_bits <= self.t;
+        let reason = self.reason(&answer, &ended);
+        Row {
+            line,
+            block,
+            outcome: if answer.decoded {
+                Outcome::Decoded
+            } else {
+                Outcome::Failed
+            },
+            counts: Some(Counts {
+                rounds: answer.rounds,
+                failing: answer.failing,
+                changed: answer.changed,
+                wrong_bits: ended.wrong_bits,
+                word: ended.word,
+            }),
+            within_half,
+            reason,
+        }
+    }
+}
+
+fn checks(count: usize) -> String {
+    match count {
+        1 => "1 check".into(),
+        _ => format!("{count} checks"),
+    }
+}
+
+/// What this tool finds out of a block's word and samples.
+#[derive(Clone, Debug, Default)]
+pub struct Ended {
+    pub word: Vec<u8>,
+    /// In how many places the word differs from the hard bits.
+    pub wrong_bits: usize,
+    /// Whether a sample above 0 has level 0.
+    pub weak: bool,
+}
+
+/// The row of a refused block.
+pub fn refused(line: usize, block: usize, reason: String) -> Row {
+    Row {
+        line,
+        block,
+        outcome: Outcome::Refused,
+        counts: None,
+        within_half: false,
+        reason,
+    }
+}
+
+/// The totals of a run.
+#[derive(Clone, Copy, Debug, Default, PartialEq, Eq)]
+pub struct Totals {
+    pub blocks: usize,
+    pub decoded: usize,
+    pub within_half: usize,
+    pub failed: usize,
+    pub refused: usize,
+    /// Samples of level 0, and blocks in which one of them is above 0.
+    pub level_0: usize,
+    pub weak_blocks: usize,
+}
+
+impl Totals {
+    pub fn count(&mut self, row: &Row) {
+        self.blocks += 1;
+        match row.outcome {
+            Outcome::Decoded => self.decoded += 1,
+            Outcome::Failed => self.failed += 1,
+            Outcome::Refused => self.refused += 1,
+        }
+        self.within_half += usize::from(row.within_half);
+    }
+
+    pub fn add(&mut self, other: &Totals) {
+        self.blocks += other.blocks;
+        self.decoded += other.decoded;
+        self.within_half += other.within_half;
+        self.failed += other.failed;
+        self.refused += other.refused;
+        self.level_0 += other.level_0;
+        self.weak_blocks += other.weak_blocks;
+    }
+
+    /// Whether every block was decoded.
+    pub fn all_decoded(&self) -> bool {
+        self.decoded == self.blocks
+    }
+
+    /// The outcomes, in one line.
+    pub fn outcomes(&self) -> String {
+        format!(
+            "{} blocks: {} decoded ({} within the half, {} beyond it), {} failed, {} refused",
+            self.blocks,
+            self.decoded,
+            self.within_half,
+            self.decoded - self.within_half,
+            self.failed,
+            self.refused
+        )
+    }
+
+    /// The sizes and what they promise, in one line; `sizes` comes from the matrix.
+    pub fn summary(&self, sizes: &str, promise: &Promise) -> String {
+        let mut line = format!("{sizes}, blocks {}", self.blocks);
+        let Some((limit, ample)) = promise.limits else {
+            return line + "; one-step voting carries the promise";
+        };
+        line += &format!(", samples at level 0: {}", self.level_0);
+        line += &match limit < ample {
+            true => format!(
+                "; limit {limit} does not carry the promise: limit {ample} (L / 2 + 1) does"
+            ),
+            false => {
+                format!("; limit {limit} carries the promise (it is at least L / 2 + 1 = {ample})")
+            }
+        };
+        if promise.needs_levels() {
+            line += &format!(
+                "; gamma is even: it holds for t - 1 in the blocks with a sample above 0 at \
+                 level 0, which are {}",
+                self.weak_blocks
+            );
+        }
+        line
+    }
+}

@@ -1,0 +1,199 @@
+//! The results table: one line a block, to be opened in a spreadsheet and read again by `map`.
+
+use crate::fault::Fault;
+use crate::fields::{Fields, Separator};
+use crate::lines::Lines;
+use crate::program::bytes;
+use std::io::Write;
+
+/// The table's first line.
+pub const COLUMNS: &str =
+    "line,block,outcome,rounds,failing,changed,wrong_bits,within_half,reason,word";
+
+#[derive(Clone, Copy, Debug, PartialEq, Eq)]
+pub enum Outcome {
+    Decoded,
+    Failed,
+    Refused,
+}
+
+impl Outcome {
+    pub fn shown(self) -> &'static str {
+        match self {
+            Outcome::Decoded => "decoded",
+            Outcome::Failed => "failed",
+            Outcome::Refused => "refused",
+        }
+    }
+
+    fn read(text: &str) -> Option<Outcome> {
+        let all = [Outcome::Decoded, Outcome::Failed, Outcome::Refused];
+        all.into_iter().find(|outcome| outcome.shown() == text)
+    }
+}
+
+/// What was counted for a block that was not refused.
+#[derive(Clone, Debug, PartialEq, Eq)]
+pub struct Counts {
+    pub rounds: usize,
+    pub failing: usize,
+    pub changed: usize,
+    /// In how many places the word differs from the samples' hard bits, counted by this tool.
+    pub wrong_bits: usize,
+    pub word: Vec<u8>,
+}
+
+/// A block's line of the table.
+#[derive(Clone, Debug, PartialEq, Eq)]
+pub struct Row {
+    /// The line of the samples' file at which the block begins.
+    pub line: usize,
+    pub block: usize,
+    pub outcome: Outcome,
+    pub counts: Option<Counts>,
+    pub within_half: bool,
+    pub reason: String,
+}
+
+impl Row {
+    /// Puts the line to a text. A word has an `x` before it: no spreadsheet takes it for a number.
+    pub fn put(&self, text: &mut Vec<u8>) {
+        let mut put = |part: std::fmt::Arguments| text.write_fmt(part).expect("writing to memory");
+        put(format_args!(
+            "{},{},{},",
+            self.line,
+            self.block,
+            self.outcome.shown()
+        ));
+        match &self.counts {
+            Some(c) => put(format_args!(
+                "{},{},{},{}",
+                c.rounds, c.failing, c.changed, c.wrong_bits
+            )),
+            None => put(format_args!(",,,")),
+        }
+        let within = if self.within_half { "yes" } else { "no" };
+        put(format_args!(",{within},{},", quoted(&self.reason)));
+        if let Some(counts) = &self.counts {
+            put(format_args!("x"));
+            for byte in &counts.word {
+                put(format_args!("{byte:02x}"));
+            }
+        }
+        text.push(b'\n');
+    }
+}
+
+/// A field, in quotation marks where it needs them.
+fn quoted(text: &str) -> String {
+    match text.contains(['"', ',', ';', '\n']) {
+        true => format!("\"{}\"", text.replace('"', "\"\"")),
+        false => text.into(),
+    }
+}
+
+/// A reader of results tables, by the names of the columns. Further columns do no harm.
+pub struct Table {
+    lines: Lines,
+    names: Vec<String>,
+    fields: Fields,
+}
+
+impl Table {
+    pub fn open(file: &str) -> Result<Table, Fault> {
+        let mut lines = Lines::open(file)?;
+        let mut fields = Fields::default();
+        let names = match lines.advance()? {
+            true => split(&lines, &mut fields)?,
+            false => Vec::new(),
+        };
+        let table = Table {
+            lines,
+            names,
+            fields,
+        };
+        for name in COLUMNS.split(',') {
+            table.column(name)?;
+        }
+        Ok(table)
+    }
+
+    /// Which column has this name, from 0.
+    pub fn column(&self, name: &str) -> Result<usize, Fault> {
+        let found = self.names.iter().position(|known| known == name);
+        found.ok_or_else(|| {
+            let what = format!("there is no column `{name}`");
+            self.lines
+                .place()
+                .fault(what, "is this a table of mlgd decode?")
+        })
+    }
+
+    /// The fields of the next line.
+    pub fn next_fields(&mut self) -> Result<Option<Vec<String>>, Fault> {
+        while self.lines.advance()? {
+            if self.lines.text().trim().is_empty() {
+                continue;
+            }
+            let found = split(&self.lines, &mut self.fields)?;
+            if found.len() != self.names.len() {
+                let what = format!("{} fields below {} names", found.len(), self.names.len());
+                let remedy = "is the table whole?";
+                return Err(self.lines.place().fault(what, remedy));
+            }
+            return Ok(Some(found));
+        }
+        Ok(None)
+    }
+
+    /// The next line as a row.
+    pub fn next_row(&mut self) -> Result<Option<Row>, Fault> {
+        let Some(fields) = self.next_fields()? else {
+            return Ok(None);
+        };
+        let text = |name: &str| Ok(fields[self.column(name)?].as_str());
+        let odd = |name: &str, written: &str| {
+            let field = self.column(name).map_or(1, |at| at + 1);
+            let what = format!("{name}: `{written}` does not belong there");
+            self.lines
+                .place()
+                .at(field, what, "is this a table of mlgd decode?")
+        };
+        let whole = |name: &str| -> Result<usize, Fault> {
+            let written = text(name)?;
+            written.parse().map_err(|_| odd(name, written))
+        };
+        let outcome = Outcome::read(text("outcome")?).ok_or_else(|| odd("outcome", "this"))?;
+        let word = text("word")?.strip_prefix('x').and_then(bytes);
+        let counts = match outcome {
+            Outcome::Refused => None,
+            _ => Some(Counts {
+                rounds: whole("rounds")?,
+                failing: whole("failing")?,
+                changed: whole("changed")?,
+                wrong_bits: whole("wrong_bits")?,
+                word: word.ok_or_else(|| odd("word", "this"))?,
+            }),
+        };
+        Ok(Some(Row {
+            line: whole("line")?,
+            block: whole("block")?,
+            outcome,
+            counts,
+            within_half: text("within_half")? == "yes",
+            reason: text("reason")?.into(),
+        }))
+    }
+}
+
+/// The fields of a line. A table that a spreadsheet has saved may have semicolons.
+fn split(lines: &Lines, fields: &mut Fields) -> Result<Vec<String>, Fault> {
+    let line = lines.text();
+    let separator = fields.split(lines.place(), line, false)?;
+    if separator == Separator::Blank {
+        let what = "this line has one field";
+        return Err(lines.place().fault(what, "is this a table of mlgd decode?"));
+    }
+    let text = |span: &crate::fields::Span| span.of(line).replace("\"\"", "\"");
+    Ok(fields.spans.iter().map(text).collect())
+}

@@ -1,0 +1,310 @@
+//! How the tool ends: statuses, full disks, lost lines, help.
+
+use crate::common::{program, Folder, SETTING};
+use generator::{alist, codes};
+use std::fs;
+use std::os::unix::fs::PermissionsExt;
+
+const GOOD: &str = "0.5,-1,-1,-1,-1,-1,-1\n";
+
+fn folder(name: &str, samples: &str) -> Folder {
+    let folder = Folder::new(name);
+    folder.write("h", alist::text(&codes::code_a()));
+    folder.write("y", samples);
+    folder
+}
+
+#[test]
+fn statuses() {
+    let Some(program) = program() else { return };
+    let decoded = folder("status-0", GOOD);
+    assert_eq!(decoded.decode(&program, SETTING, &[]).status, 0);
+    let refused = folder("status-1", &format!("{GOOD}nan,-1,-1,-1,-1,-1,-1\n"));
+    assert_eq!(refused.decode(&program, SETTING, &[]).status, 1);
+    let limit_0 = "bits 8 limit 0 level-step 0.1";
+    let ran = decoded.decode(&program, limit_0, &[]);
+    assert_eq!(ran.status, 1);
+    let row = decoded.read("r").lines().nth(1).unwrap().to_string();
+    let reason = "3 checks still fail after 0 rounds: try a limit of 64 before you send it again";
+    assert_eq!(row, format!("1,0,failed,0,3,0,0,no,{reason},x80"));
+    let fault = folder("status-2", "six\n");
+    assert_eq!(fault.decode(&program, SETTING, &[]).status, 2);
+    assert!(!fault.has("r"), "no table where there is a fault");
+    let none = folder("status-none", "\n");
+    let ran = none.decode(&program, SETTING, &[]);
+    assert_eq!(
+        ran.said,
+        "y: there is no block in it, is this the right file?\n"
+    );
+}
+
+/// A full disk is told, with status 2: the table, the input, the help.
+#[test]
+fn a_full_disk() {
+    let Some(program) = program() else { return };
+    let folder = folder("full", GOOD);
+    let files = [
+        "--matrix",
+        "h",
+        "--setting",
+        SETTING,
+        "--samples",
+        "y",
+        "--out",
+        "/dev/full",
+    ];
+    let decode = [&["decode", "--program", &program], &files[..]].concat();
+    let pack = [&["pack"], &files[..]].concat();
+    let one_step = [
+        "decode",
+        "--one-step",
+        "--matrix",
+        "h",
+        "--samples",
+        "y",
+        "--out",
+        "/dev/full",
+    ];
+    let matrix = ["matrix", "h", "--to", "alist", "--out", "/dev/full"];
+    for words in [&decode[..], &pack, &one_step, &matrix] {
+        let ran = folder.run(words);
+        assert_eq!(ran.status, 2, "{words:?}: {ran:?}");
+        assert!(
+            ran.said.starts_with("/dev/full: No space left on device"),
+            "{}",
+            ran.said
+        );
+    }
+}
+
+/// The same of what goes to standard output.
+#[test]
+fn a_full_disk_behind_standard_output() {
+    let folder = folder("full-output", GOOD);
+    for words in ["--help", "--version", "matrix h"] {
+        let full = fs::File::options().write(true).open("/dev/full").unwrap();
+        let mut command = std::process::Command::new(crate::common::TOOL);
+        command
+            .args(words.split(' '))
+            .current_dir(&folder.0)
+            .stdout(full);
+        let output = command.output().unwrap();
+        let said = String::from_utf8(output.stderr).unwrap();
+        assert_eq!(output.status.code(), Some(2), "{words}");
+        assert!(
+            said.starts_with("standard output: No space left on device"),
+            "{said}"
+        );
+    }
+}
+
+/// Programs that lose lines, or print something else.
+#[test]
+fn lost_lines() {
+    let folder = folder("lost", &GOOD.repeat(3));
+    let heading = "block end rounds failing changed word";
+    for (printed, what) in [
+        ("", "its first line is not the heading"),
+        (heading, "it printed 0 lines for 3 blocks: a write was lost"),
+        (
+            "H\\n0 decoded 1 0 1 00",
+            "it printed 1 lines for 3 blocks: a write was lost",
+        ),
+        (
+            "H\\n0 decoded 1 0 1 00\\n1 dec",
+            "it printed `1 dec` for block 1",
+        ),
+        ("H\\nshort", "it printed `short` for block 0"),
+        (
+            "H\\n1 decoded 1 0 1 00",
+            "it printed `1 decoded 1 0 1 00` for block 0",
+        ),
+    ] {
+        let printed = printed.replace('H', heading);
+        folder.write(
+            "fake",
+            format!("#!/bin/sh\ncat >/dev/null\nprintf '{printed}\\n'\n"),
+        );
+        let fake = folder.0.join("fake");
+        fs::set_permissions(&fake, fs::Permissions::from_mode(0o755)).unwrap();
+        let ran = folder.decode("fake", SETTING, &[]);
+        assert_eq!(ran.status, 2, "{ran:?}");
+        assert!(ran.said.contains(what), "{}", ran.said);
+        assert!(!folder.has("r"));
+    }
+}
+
+/// Programs that fail, or are not there.
+#[test]
+fn lost_programs() {
+    let folder = folder("lost-programs", GOOD);
+    folder.write("fake", "#!/bin/sh\nexit 3\n");
+    let executable = fs::Permissions::from_mode(0o755);
+    fs::set_permissions(folder.0.join("fake"), executable).unwrap();
+    let ran = folder.decode("fake", SETTING, &[]);
+    assert!(
+        ran.status == 2 && ran.said.contains("it ended with exit status: 3"),
+        "{ran:?}"
+    );
+    let ran = folder.decode("nothing", SETTING, &[]);
+    assert_eq!(
+        ran.said,
+        "nothing: there is no such program, build it: make decode\n"
+    );
+}
+
+#[test]
+fn help_and_version() {
+    let folder = folder("help", GOOD);
+    for (words, begins) in [
+        (&["--help"][..], "mlgd SUBCOMMAND"),
+        (&["-h"], "mlgd SUBCOMMAND"),
+        (&["--version"], "mlgd 0."),
+        (&["decode", "--help"], "mlgd decode --matrix M"),
+        (&["matrix", "--help"], "mlgd matrix M"),
+        (&["pack", "--help"], "mlgd pack --matrix M"),
+        (&["unpack", "-h"], "mlgd unpack INPUT"),
+    ] {
+        let ran = folder.run(words);
+        assert_eq!((ran.status, ran.said.as_str()), (0, ""), "{words:?}");
+        assert!(ran.text().starts_with(begins), "{}", ran.text());
+    }
+}
+
+#[test]
+fn command_lines_that_cannot_be_followed() {
+    let folder = folder("misused", GOOD);
+    for (words, message) in [
+        (&[][..], "mlgd: a subcommand is missing, see mlgd --help\n"),
+        (
+            &["paint"],
+            "mlgd: `paint` is no subcommand, see mlgd --help\n",
+        ),
+        (
+            &["decode"],
+            "mlgd decode: --samples is missing, see mlgd decode --help\n",
+        ),
+        (
+            &["matrix"],
+            "mlgd matrix: the matrix's file is missing, see mlgd matrix --help\n",
+        ),
+        (
+            &["matrix", "nothing"],
+            "nothing: No such file or directory (os error 2), is the name right?\n",
+        ),
+        (
+            &["matrix", "h", "--to", "x"],
+            "mlgd matrix: --to is alist, list or rows, and not `x`, see mlgd matrix --help\n",
+        ),
+    ] {
+        let ran = folder.run(words);
+        assert_eq!((ran.status, ran.said.as_str()), (2, message), "{words:?}");
+    }
+}
+
+/// An output never replaces an input, and a table has its name only when it is whole.
+#[test]
+fn names_of_outputs() {
+    let Some(program) = program() else { return };
+    let folder = folder("names", GOOD);
+    let words = [
+        "decode",
+        "--matrix",
+        "h",
+        "--setting",
+        SETTING,
+        "--samples",
+        "y",
+    ];
+    let ran = folder.run(&[&words[..], &["--program", &program, "--out", "./y"]].concat());
+    assert_eq!(
+        ran.said,
+        "./y: the output would replace an input, give it another name\n"
+    );
+    assert_eq!(folder.read("y"), GOOD);
+    folder.write("y", format!("{GOOD}six\n"));
+    folder.write("r", "an old table\n");
+    assert_eq!(folder.decode(&program, SETTING, &[]).status, 2);
+    assert_eq!(folder.read("r"), "an old table\n");
+    assert!(!folder.has("r.part"), "and nothing else is left");
+    folder.write("y", GOOD);
+    assert_eq!(folder.decode(&program, SETTING, &[]).status, 0);
+    assert!(!folder.has("r.part"));
+    let ran = folder.run(&[&words[..], &["--program", &program]].concat());
+    assert_eq!(
+        ran.text(),
+        folder.read("r"),
+        "standard output without --out"
+    );
+}
+
+/// P1 to P5 and a spare place, by one-step voting on words and on the samples' hard bits.
+#[test]
+fn one_step() {
+    let folder = Folder::new("one-step");
+    folder.write("a", alist::text(&codes::code_a()));
+    folder.write("b", alist::text(&codes::code_b()));
+    folder.write("words-a", "2e\nxAE\n1100000\n0x2f\n");
+    folder.write("words-b", "0800\n100010000\n");
+    let voted = |matrix: &str, words: &str| {
+        let ran = folder.run(&["decode", "--one-step", "--matrix", matrix, "--words", words]);
+        (
+            ran.status,
+            ran.text()
+                .lines()
+                .skip(1)
+                .map(String::from)
+                .collect::<Vec<_>>(),
+        )
+    };
+    let (status, rows) = voted("a", "words-a");
+    assert_eq!(status, 1);
+    assert_eq!(
+        rows,
+        [
+            "1,0,decoded,0,0,0,0,yes,,x2e",
+            "2,1,decoded,1,0,1,1,yes,,x2e",
+            "3,2,decoded,1,0,6,6,no,more than 1 bit was wrong: not proved to be the block sent,x2e",
+            "4,3,refused,,,,,no,one of the last 1 places of the last byte is not 0,",
+        ]
+    );
+    let (status, rows) = voted("b", "words-b");
+    assert_eq!(status, 1);
+    assert_eq!(rows[0], "1,0,decoded,1,0,1,1,yes,,x0000");
+    let failed = "more than 1 bit was wrong: 4 checks still fail: send the block again";
+    assert_eq!(rows[1], format!("2,1,failed,1,4,4,4,no,{failed},x5000"));
+}
+
+/// The same on the hard bits of samples.
+#[test]
+fn one_step_on_samples() {
+    let folder = Folder::new("one-step-samples");
+    folder.write("a", alist::text(&codes::code_a()));
+    folder.write("y", "1,-1,0.2,-1,1,3,1\nnan,1,1,1,1,1,1\n");
+    let words = [
+        "decode",
+        "--one-step",
+        "--matrix",
+        "a",
+        "--samples",
+        "y",
+        "--out",
+        "r",
+    ];
+    let ran = folder.run(&words);
+    assert_eq!(ran.status, 1);
+    assert!(
+        ran.said.contains("one-step voting carries the promise"),
+        "{}",
+        ran.said
+    );
+    let table = folder.read("r");
+    let rows: Vec<&str> = table.lines().skip(1).collect();
+    assert_eq!(rows[0], "1,0,decoded,1,0,1,1,yes,,x2e");
+    assert_eq!(
+        rows[1],
+        "2,1,refused,,,,,no,sample 1 is no finite number: send the block again,"
+    );
+    let ran = folder.run(&[&words[..], &["--setting", "s"]].concat());
+    assert_eq!(ran.status, 2);
+}

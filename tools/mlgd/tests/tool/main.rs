@@ -1,0 +1,9 @@
+//! The tool as its users run it, in one test program.
+
+mod chance;
+mod common;
+mod ends;
+mod memory;
+mod messages;
+mod round_trips;
+mod table;

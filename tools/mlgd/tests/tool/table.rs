@@ -1,0 +1,204 @@
+//! Whole files against the reference decoder: every line of the table.
+
+use crate::common::{csv, program, Folder};
+use generator::codes::{self, Code};
+use generator::{alist, inputs, settings, stream, Codewords, Random};
+use mlgd::results::{Outcome, Row, Table, COLUMNS};
+use reference::{hard_bit, level, pack, Setting};
+
+/// A setting as the tool reads it.
+fn words(setting: &Setting) -> String {
+    let kind = ["level-step", "full-scale"][usize::from(setting.kind)];
+    let step = mlgd::number::write(setting.step);
+    format!(
+        "bits {} limit {} {kind} {step}",
+        setting.bits, setting.limit
+    )
+}
+
+/// The rows of a table.
+fn rows(folder: &Folder, name: &str) -> Vec<Row> {
+    let path = folder.0.join(name);
+    let mut table = Table::open(path.to_str().unwrap()).unwrap();
+    let mut rows = Vec::new();
+    while let Some(row) = table.next_row().unwrap() {
+        rows.push(row);
+    }
+    rows
+}
+
+/// In how many places two words differ.
+fn differing(a: &[u8], b: &[u8]) -> usize {
+    let places = a.iter().zip(b).map(|(a, b)| (a ^ b).count_ones() as usize);
+    places.sum()
+}
+
+/// Compares a row with the reference's line for the same block.
+fn compare(row: &Row, line: &str, samples: &[f32], code: &Code, at: usize) {
+    let fields: Vec<&str> = line.split(' ').collect();
+    assert_eq!((row.line, row.block), (at + 1, at), "{}", code.name);
+    assert_eq!(row.outcome.shown(), fields[1], "{}", code.name);
+    let Some(counts) = &row.counts else {
+        return compare_refused(row, samples, fields[3].parse().unwrap());
+    };
+    let hex = counts.word.iter().map(|byte| format!("{byte:02x}"));
+    let (rounds, failing, changed) = (counts.rounds, counts.failing, counts.changed);
+    let found = format!("{rounds} {failing} {changed} {}", hex.collect::<String>());
+    assert_eq!(found, fields[2..].join(" "), "{}", code.name);
+    let received = pack(&samples.iter().map(|&y| hard_bit(y)).collect::<Vec<_>>());
+    assert_eq!(counts.wrong_bits, differing(&counts.word, &received));
+    let within =
+        row.outcome == Outcome::Decoded && counts.wrong_bits <= usize::from(code.matrix.gamma / 2);
+    assert_eq!(row.within_half, within);
+    assert_eq!(row.reason.is_empty(), within, "{}", row.reason);
+}
+
+/// A refused block's row.
+fn compare_refused(row: &Row, samples: &[f32], place: usize) {
+    assert!(!row.within_half && !samples[place].is_finite());
+    let kind = match samples[place].is_nan() {
+        true => "not a number",
+        false => "infinite",
+    };
+    let (column, sample) = (mlgd::fields::column_letters(place + 1), place + 1);
+    let reason = format!("sample {sample} (column {column}) is {kind}: send the block again");
+    assert_eq!(row.reason, reason);
+}
+
+/// Decodes blocks by the tool and by the reference.
+fn whole_file(program: &str, code: &Code, setting: &Setting, blocks: &[Vec<f32>], jobs: &str) {
+    let folder = Folder::new(&format!("table-{}-{}-{jobs}", code.matrix.n, setting.bits));
+    folder.write("h", alist::text(code));
+    // A comma between two whole numbers could be a decimal comma: only for n = 2.
+    folder.write("y", csv(blocks).replace(',', ";"));
+    let ran = folder.decode(program, &words(setting), &["--jobs", jobs]);
+    let expected = reference::program(&stream::input(&code.matrix, setting, blocks));
+    let expected = String::from_utf8(expected).unwrap();
+    let lines: Vec<&str> = expected.lines().skip(1).collect();
+    let open = lines.iter().any(|line| !line.contains("decoded"));
+    assert_eq!(ran.status, i32::from(open), "{}: {ran:?}", code.name);
+    assert_eq!(folder.read("r").lines().next(), Some(COLUMNS));
+    let rows = rows(&folder, "r");
+    assert_eq!(rows.len(), blocks.len(), "{}", code.name);
+    for (at, (row, line)) in rows.iter().zip(lines).enumerate() {
+        compare(row, line, &blocks[at], code, at);
+    }
+    let level_0 = |block: &Vec<f32>| {
+        let finite = block.iter().filter(|y| y.is_finite());
+        finite.filter(|&&y| level(setting, y) == 0).count()
+    };
+    let count: usize = blocks.iter().map(level_0).sum();
+    let said = format!("blocks {}, samples at level 0: {count};", blocks.len());
+    assert!(ran.said.contains(&said), "{said}: {}", ran.said);
+}
+
+#[test]
+fn every_code_against_the_reference() {
+    let Some(program) = program() else { return };
+    let mut random = Random::new(71);
+    let mut all = [codes::small(), codes::medium()].concat();
+    all.extend([codes::qc961(), codes::cycle(1023)]);
+    for (at, code) in all.iter().enumerate() {
+        let (bits, kind) = (2 + (at % 7) as u16, (at / 7 % 2) as u16);
+        let limit = *random.pick(&[0, 1, 2, 5, 30, 64, 255]);
+        let setting = settings::around_one(bits, limit, kind, &mut random);
+        let blocks = inputs::blocks(code, 6, 1.0, &mut random);
+        whole_file(&program, code, &setting, &blocks, "1");
+    }
+}
+
+/// Tanner's code with noise: blocks within the half, beyond it, failed and refused.
+#[test]
+fn a_file_with_every_outcome() {
+    let Some(program) = program() else { return };
+    let code = codes::tanner155();
+    let blocks = inputs::blocks(&code, 400, 1.0, &mut Random::new(72));
+    let setting = settings::level_step(8, 64, 0.1);
+    whole_file(&program, &code, &setting, &blocks, "2");
+}
+
+/// Wrong samples ten times as strong as the right ones are undone, and the table says so.
+#[test]
+fn strong_wrong_samples_within_the_half() {
+    let Some(program) = program() else { return };
+    let mut random = Random::new(73);
+    for code in [codes::code_a(), codes::euclidean(3), codes::tanner155()] {
+        let folder = Folder::new(&format!("half-{}", code.matrix.n));
+        let t = usize::from(code.matrix.gamma / 2);
+        let codewords = Codewords::of(&code.matrix);
+        let mut sent = Vec::new();
+        let mut blocks = Vec::new();
+        for at in 0..40 {
+            let word = codewords.random(&mut random);
+            let mut samples: Vec<f32> = word
+                .iter()
+                .map(|&bit| if bit { 1.0 } else { -1.0 })
+                .collect();
+            for j in random.different(at % (t + 1), samples.len()) {
+                samples[j] *= -10.0;
+            }
+            sent.push(pack(&word));
+            blocks.push(samples);
+        }
+        folder.write("h", alist::text(&code));
+        folder.write("y", csv(&blocks));
+        let ran = folder.decode(&program, crate::common::SETTING, &[]);
+        assert_eq!(ran.status, 0, "{}: {ran:?}", code.name);
+        for (at, (row, sent)) in rows(&folder, "r").iter().zip(&sent).enumerate() {
+            let counts = row.counts.as_ref().unwrap();
+            assert!(row.within_half && row.reason.is_empty());
+            assert_eq!((&counts.word, counts.wrong_bits), (sent, at % (t + 1)));
+        }
+        assert!(
+            ran.said.contains("limit 64 carries the promise"),
+            "{}",
+            ran.said
+        );
+    }
+}
+
+/// What the summary says of limits and of level 0.
+#[test]
+fn the_summary() {
+    let Some(program) = program() else { return };
+    let folder = Folder::new("summary");
+    folder.write("h", alist::text(&codes::code_b()));
+    folder.write(
+        "y",
+        "0.01;-1;-1;-1;-1;-1;-1;-1;-1\n-1;-1;-1;-1;-1;-1;-1;-1;-1\n",
+    );
+    let ran = folder.decode(&program, "bits 8 limit 30 level-step 0.1", &[]);
+    assert_eq!(
+        ran.said,
+        "2 blocks: 2 decoded (2 within the half, 0 beyond it), 0 failed, 0 refused\n\
+         n 9, m 6, rho 3, gamma 2, t 1, blocks 2, samples at level 0: 1; limit 30 does not carry \
+         the promise: limit 64 (L / 2 + 1) does; gamma is even: it holds for t - 1 in the blocks \
+         with a sample above 0 at level 0, which are 1\n"
+    );
+}
+
+/// A spreadsheet may save the table with semicolons.
+#[test]
+fn a_table_that_was_saved_again() {
+    let folder = Folder::new("saved");
+    let header = COLUMNS.replace(',', ";");
+    let decoded = "5;0;decoded;1;0;1;1;yes;;x2e";
+    let refused = "6;1;refused;;;;;no;\"a, b; \"\"c\"\"\";";
+    folder.write(
+        "r",
+        format!("\u{feff}{header}\r\n{decoded}\r\n{refused}\r\n"),
+    );
+    let rows = rows(&folder, "r");
+    assert_eq!(
+        (rows[0].line, rows[0].counts.as_ref().unwrap().word[0]),
+        (5, 0x2e)
+    );
+    assert_eq!(rows[1].reason, "a, b; \"c\"");
+    folder.write("bad", "line,block\n1,2\n");
+    let path = folder.0.join("bad");
+    let fault = Table::open(path.to_str().unwrap())
+        .err()
+        .unwrap()
+        .to_string();
+    assert!(fault.contains("there is no column `outcome`"), "{fault}");
+}
