@@ -10,14 +10,13 @@ use native.Mathlib.Omega.{arith}
 use lib.ListN.{length, set, replicate, length-set, length-replicate}
 use lib.Seq.{getD-set-same, getD-set-other}
 use Rattle.counting.specs.Sum.{sum, same}
+use Rattle.counting.specs.Places.{at, among}
 use Rattle.counting.proofs.Sums.{sum-cong, sum-mul, sum-next, sum-part, sum-pick, same-refl, same-ne, same-sym}
 use Rattle.counting.proofs.Writing.{stored, zeros}
-use Rattle.packed_word.specs.Steps.{at}
 use Rattle.parity_check.specs.Code.{Matrix, entry, has, weight}
 use Rattle.parity_check.specs.Reading.{Accepted}
 use Rattle.parity_check.proofs.Rows.{few-entries, in-list, weight-outside}
 use Rattle.matrix.proofs.Weights.{weight-equal}
-use Rattle.votes.specs.Tallies.{among}
 use Rattle.column_index.specs.Index.{Indexed, Filled, before, within, placed, placing}
 
 -- the next place of the list, its column number, and the place that is free at that column

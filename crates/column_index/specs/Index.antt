@@ -11,9 +11,8 @@ use mathlib.Core.Path.{_≡_}
 use mathlib.Core.List.{List}
 use lib.ListN.{length}
 use Rattle.counting.specs.Sum.{sum, same}
-use Rattle.packed_word.specs.Steps.{at}
+use Rattle.counting.specs.Places.{at, among}
 use Rattle.parity_check.specs.Code.{Matrix, entry, has}
-use Rattle.votes.specs.Tallies.{among}
 
 -- each row stands at each of its columns, and no other does
 pub record Indexed (H : Matrix) (x : List ℕ) : Type 0 where

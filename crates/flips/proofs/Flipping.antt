@@ -10,7 +10,7 @@ use lib.Dec.{ltb}
 use lib.ListN.{length, set, length-set}
 use mir.Val.{boolByte}
 use Rattle.counting.proofs.Writing.{stored}
-use Rattle.packed_word.specs.Steps.{at}
+use Rattle.counting.specs.Places.{at}
 use Rattle.majority_logic.specs.Voting.{flipWhen}
 use Rattle.flips.specs.Flips.{Voted}
 

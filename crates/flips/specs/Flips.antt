@@ -6,7 +6,7 @@ use mathlib.Core.List.{List}
 use Prim.Native.Nat.{ℕ, _*_, _<_, _≤_}
 use lib.Dec.{ltb}
 use lib.ListN.{length}
-use Rattle.packed_word.specs.Steps.{at}
+use Rattle.counting.specs.Places.{at}
 use Rattle.majority_logic.specs.Voting.{flipWhen}
 
 -- "each bit for which more than half of its γ checks fail is flipped"; the cells beyond stay

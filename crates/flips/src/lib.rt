@@ -5,7 +5,7 @@ ghost use mathlib.Core.Path.{_≡_};
 ghost use Prim.Native.Nat.{ℕ, _*_, _<_, _≤_};
 ghost use lib.Dec.{ltb};
 ghost use lib.ListN.{length};
-ghost use Rattle.packed_word.specs.Steps.{at};
+ghost use Rattle.counting.specs.Places.{at};
 ghost use Rattle.majority_logic.specs.Voting.{flipWhen};
 ghost use Rattle.flips.specs.Flips.{Voted};
 

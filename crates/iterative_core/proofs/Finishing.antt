@@ -8,10 +8,10 @@ use lib.IntN.{ℤ, pos, natAbs}
 use lib.Ieee.{Float, nan}
 use lib.ListN.{length, getD, take}
 use Rattle.counting.specs.Lists.{listed, over}
+use Rattle.counting.specs.Places.{at}
 use Rattle.counting.proofs.Writing.{length-listed, getD-listed, listed-cong, length-over, getD-over-new, take-over, over-over}
 use Rattle.answers.specs.Paper.{Said, report, outcomeBy}
 use Rattle.packed_word.specs.Packed.{bitAt, bytesFor, pack, distance}
-use Rattle.packed_word.specs.Steps.{at}
 use Rattle.packed_word.proofs.Packing.{length-pack, bitAt-pack, spare-pack, pack-cong}
 use Rattle.packed_word.proofs.Distances.{distance-cong, distance-spare}
 use Rattle.parity_check.specs.Code.{Matrix}

@@ -5,10 +5,11 @@ use Prim.Native.Nat.{ℕ, _+_, _*_, _-_, _<_}
 use native.Mathlib.Omega.{arith}
 use lib.ListN.{length, take}
 use Rattle.counting.specs.Lists.{over}
+use Rattle.counting.specs.Places.{at}
 use Rattle.counting.proofs.Writing.{take-over}
 use Rattle.answers.specs.Paper.{Said, report, outcomeBy}
 use Rattle.packed_word.specs.Packed.{bitAt, bytesFor, pack, distance}
-use Rattle.packed_word.specs.Steps.{at, Unpacked}
+use Rattle.packed_word.specs.Steps.{Unpacked}
 use Rattle.packed_word.proofs.Packing.{bit-bit, length-pack, bitAt-pack, spare-pack, pack-cong, spare-clear}
 use Rattle.packed_word.proofs.Distances.{distance-cong, distance-spare}
 use Rattle.parity_check.specs.Code.{Matrix, Word, failing}

@@ -10,9 +10,9 @@ use mathlib.Core.Bool.{false}
 use mathlib.Core.List.{List}
 use lib.ListN.{length}
 use Rattle.counting.specs.Lists.{over}
+use Rattle.counting.specs.Places.{at}
 use Rattle.answers.specs.Paper.{Said, written}
 use Rattle.packed_word.specs.Packed.{bitAt, bytesFor, spareSet}
-use Rattle.packed_word.specs.Steps.{at}
 use Rattle.parity_check.specs.Code.{Matrix, failing}
 use Rattle.parity_check.specs.Reading.{Accepted}
 use Rattle.majority_logic.specs.OneStep.{stepWord, stepRounds, oneStepReport, oneStepVerdict, oneStepOf, oneStepWord}

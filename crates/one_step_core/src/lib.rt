@@ -4,7 +4,7 @@ use answers::Report;
 use parity_check::Shape;
 use votes::Stop;
 ghost use Rattle.answers.specs.Answers.{reportOf};
-ghost use Rattle.packed_word.specs.Steps.{at};
+ghost use Rattle.counting.specs.Places.{at};
 ghost use Rattle.parity_check.specs.Code.{Word};
 ghost use Rattle.parity_check.specs.Reading.{Accepted};
 ghost use Rattle.parity_check.specs.Shapes.{matrixOf};

@@ -1,5 +1,4 @@
 -- What one call does to a packed or an unpacked word.
---   at l             == the list l as a function of the place, 0 past its end
 --   SetBit, FlipBit  == one bit of a packed word set, turned over
 --   Unpacked         == an array that holds a word's bits one by one
 --   apart x y        == the number of places at which two bytes differ
@@ -7,13 +6,10 @@
 use Prim.Native.Nat.{ℕ, _-_, _/_, _%_, _^_, _<_, _≤_}
 use mathlib.Core.Path.{_≡_}
 use mathlib.Core.List.{List}
-use lib.ListN.{length, getD}
+use lib.ListN.{length}
 use Rattle.counting.specs.Sum.{sum, differ}
+use Rattle.counting.specs.Places.{at}
 use Rattle.packed_bits.specs.Packed.{bitAt}
-
--- a list read by its places
-abbrev pub at : List ℕ → ℕ → ℕ
-at l j = getD l j 0
 
 -- bit j is set, and no other changes
 pub record SetBit (w w′ : List ℕ) (j : ℕ) : Type 0 where

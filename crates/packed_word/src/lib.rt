@@ -10,8 +10,9 @@ ghost use lib.Dec.{ltb};
 ghost use lib.ListN.{length};
 ghost use Rattle.counting.specs.Sum.{flag};
 ghost use Rattle.counting.specs.Lists.{over};
+ghost use Rattle.counting.specs.Places.{at};
 ghost use Rattle.packed_bits.specs.Packed.{bitAt, bytesFor, packedByte, pack, distance};
-ghost use Rattle.packed_bits.specs.Steps.{at, Unpacked, apart};
+ghost use Rattle.packed_bits.specs.Steps.{Unpacked, apart};
 
 // Writes the n bits of a word into the first n cells, one to a cell.
 fn unpack_cells(w: &[u8], n: usize, cells: &mut [u8])

@@ -11,8 +11,8 @@ use lib.ListN.{length, getD, set, length-set}
 use lib.Ieee.{Float, nan}
 use lib.Seq.{getD-set-same, getD-set-other}
 use Rattle.counting.specs.Lists.{listed, over}
+use Rattle.counting.specs.Places.{at}
 use Rattle.counting.proofs.Writing.{listed-cong, over-none, over-more}
-use Rattle.packed_word.specs.Steps.{at}
 use Rattle.sample_levels.specs.Samples.{Choice, magnitude, levelOf, levelsOf, hardBit}
 use Rattle.sample_levels.specs.Scaling.{levelBy, levelAt, Scaled}
 use Rattle.quantiser.specs.Filling.{Stored, Filled}

@@ -13,11 +13,11 @@ use lib.Ieee.Scale.{finite}
 use lib.ListN.{length, getD}
 use borrow.Author.Tests.{ltb-false, lt-ltb, le-ltb}
 use Rattle.counting.specs.Lists.{listed, over}
+use Rattle.counting.specs.Places.{at}
 use Rattle.counting.proofs.Searches.{cases, or-left, or-right, or-neither, first-none, first-le}
 use Rattle.answers.specs.Paper.{Verdict, accepted, refused, written}
 use Rattle.answers.proofs.Verdicts.{not-accepted}
 use Rattle.packed_word.specs.Packed.{bytesFor, pack}
-use Rattle.packed_word.specs.Steps.{at}
 use Rattle.packed_word.proofs.Packing.{pack-cong}
 use Rattle.sample_levels.specs.Samples.{Choice, settingFits, levelsOf, hardBit, hardWord, notFinite, firstNotFinite, quantiseVerdict}
 use Rattle.quantiser.specs.Reading.{Acceptable}

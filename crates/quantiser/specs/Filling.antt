@@ -16,9 +16,9 @@ use lib.IntN.{ℤ}
 use lib.Ieee.{Float}
 use lib.ListN.{length}
 use Rattle.counting.specs.Lists.{listed, over}
+use Rattle.counting.specs.Places.{at}
 use Rattle.answers.specs.Paper.{Verdict, written}
 use Rattle.packed_word.specs.Packed.{bytesFor}
-use Rattle.packed_word.specs.Steps.{at}
 use Rattle.sample_levels.specs.Samples.{Choice, settingFits, levelsOf, hardBit, hardWord, firstNotFinite, quantiseVerdict}
 use Rattle.sample_levels.specs.Scaling.{levelAt}
 use Rattle.sample_levels.specs.declared.Scale.{Scale}

@@ -7,16 +7,15 @@ use native.Mathlib.Nat.{mul-comm, mul-le-mul-right}
 use native.Mathlib.Omega.{arith}
 use lib.ListN.{length, set, replicate, length-set, length-replicate}
 use Rattle.counting.specs.Sum.{differ}
+use Rattle.counting.specs.Places.{at, among}
 use Rattle.counting.proofs.Sums.{sum-cong, sum-zero}
 use Rattle.counting.proofs.Writing.{stored, zeros}
-use Rattle.packed_word.specs.Steps.{at}
 use Rattle.parity_check.specs.Code.{Matrix, entry, has, Word, fails}
 use Rattle.parity_check.specs.Reading.{Accepted}
 use Rattle.parity_check.proofs.Rows.{few-entries, row-sum}
 use Rattle.matrix.proofs.Linear.{fails-differ}
 use Rattle.syndrome.specs.Places.{rowFails, Places}
 use Rattle.syndrome.proofs.Parity.{row-fails, row-bit}
-use Rattle.votes.specs.Tallies.{among}
 use Rattle.column_index.specs.Index.{Indexed}
 use Rattle.running_tally.specs.Parities.{Bits, Turned, flips, Columns, RowParities, Parities}
 use Rattle.running_tally.proofs.Turning.{turned-bits}

@@ -8,11 +8,10 @@ use native.Mathlib.Omega.{arith}
 use lib.Bits.{bitXor}
 use lib.ListN.{set, length-set}
 use Rattle.counting.specs.Sum.{sum}
+use Rattle.counting.specs.Places.{at, among}
 use Rattle.counting.proofs.Sums.{differ-eq, differ-ne, same-refl, same-ne}
 use Rattle.counting.proofs.Writing.{stored}
-use Rattle.packed_word.specs.Steps.{at}
 use Rattle.syndrome.proofs.Parity.{xor-bits}
-use Rattle.votes.specs.Tallies.{among}
 use Rattle.running_tally.specs.Parities.{Bits, Turned, turns, flips}
 
 -- turned parities are 0 or 1

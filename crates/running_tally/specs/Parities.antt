@@ -13,10 +13,10 @@ use mathlib.Core.Path.{_≡_}
 use mathlib.Core.List.{List}
 use lib.ListN.{length}
 use Rattle.counting.specs.Sum.{sum, differ}
-use Rattle.packed_word.specs.Steps.{at}
+use Rattle.counting.specs.Places.{at, among}
 use Rattle.parity_check.specs.Code.{Matrix, fails}
 use Rattle.syndrome.specs.Places.{Part, rowFails}
-use Rattle.votes.specs.Tallies.{among, Tallied}
+use Rattle.votes.specs.Tallies.{Tallied}
 
 pub record Bits (p : List ℕ) : Type 0 where
   pub long : length p ≡ 1023

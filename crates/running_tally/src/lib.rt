@@ -4,12 +4,11 @@ use parity_check::Shape;
 ghost use Prim.Native.Nat.{_*_, _≤_, _<_};
 ghost use mathlib.Core.Path.{_≡_};
 ghost use lib.ListN.{length};
-ghost use Rattle.packed_word.specs.Steps.{at};
+ghost use Rattle.counting.specs.Places.{at, among};
 ghost use Rattle.parity_check.specs.Code.{Word};
 ghost use Rattle.parity_check.specs.Reading.{Accepted};
 ghost use Rattle.parity_check.specs.Shapes.{matrixOf};
 ghost use Rattle.syndrome.specs.Places.{Part, Checks, Places};
-ghost use Rattle.votes.specs.Tallies.{among};
 ghost use Rattle.column_index.specs.Index.{Indexed};
 ghost use Rattle.running_tally.specs.Parities.{Bits, Turned, turns, flips, Columns, RowParities, Parities, Retallied};
 

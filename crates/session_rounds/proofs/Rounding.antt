@@ -9,9 +9,10 @@ use Prim.Native.Nat.{ℕ, _*_}
 use native.Mathlib.Omega.{arith}
 use lib.IntN.{ℤ}
 use Rattle.counting.specs.Lists.{listed, over}
+use Rattle.counting.specs.Places.{at}
 use Rattle.counting.proofs.Writing.{listed-cong}
 use Rattle.packed_word.specs.Packed.{pack}
-use Rattle.packed_word.specs.Steps.{at, Unpacked}
+use Rattle.packed_word.specs.Steps.{Unpacked}
 use Rattle.packed_word.proofs.Packing.{bit-bit, pack-cong}
 use Rattle.parity_check.specs.Code.{Matrix, Word, failing}
 use Rattle.parity_check.proofs.Rows.{failing-cong}

@@ -17,12 +17,12 @@ use lib.IntN.{ℤ}
 use lib.Ieee.{Float, nan}
 use lib.ListN.{length, getD, take}
 use Rattle.counting.specs.Lists.{listed, over}
+use Rattle.counting.specs.Places.{at}
 use Rattle.counting.proofs.Writing.{take-over}
 use Rattle.answers.specs.Paper.{accepted, refused, refusal, report}
 use Rattle.answers.specs.Answers.{saidOf}
 use Rattle.answers.specs.declared.Answer.{Answer}
 use Rattle.packed_word.specs.Packed.{bitAt, bytesFor, pack, distance}
-use Rattle.packed_word.specs.Steps.{at}
 use Rattle.packed_word.proofs.Packing.{length-pack, bitAt-pack, spare-pack, spare-clear, pack-cong}
 use Rattle.packed_word.proofs.Distances.{distance-cong, distance-spare}
 use Rattle.parity_check.specs.Code.{Matrix, Word, failing}

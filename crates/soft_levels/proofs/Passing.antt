@@ -7,7 +7,7 @@ use native.Mathlib.Omega.{arith}
 use lib.IntN.{ℤ, pos}
 use lib.ListN.{length, getD, set, length-set}
 use Rattle.counting.proofs.Writing.{stored}
-use Rattle.packed_word.specs.Steps.{at}
+use Rattle.counting.specs.Places.{at}
 use Rattle.soft_levels.specs.Levels.{biased, nextLevel, aboveMiddle, Moved, Biased}
 
 -- a place passed now or before

@@ -17,7 +17,7 @@ use lib.Dec.{eqb, ltb}
 use lib.IntN.{ℤ, pos, negsuc, natAbs, subℕ}
 use lib.ListN.{length, getD}
 use Rattle.counting.specs.Sum.{flag}
-use Rattle.packed_word.specs.Steps.{at}
+use Rattle.counting.specs.Places.{at}
 
 -- R + L, for R from -L on
 abbrev pub biased : ℕ → ℤ → ℕ

@@ -6,7 +6,7 @@ use native.Mathlib.Decide.{ℕ-discrete}
 use native.Mathlib.Omega.{arith}
 use lib.IntN.{ℤ, natAbs, subℕ, _+ℤ_}
 use Rattle.counting.specs.Integers.{cut}
-use Rattle.packed_word.specs.Steps.{at}
+use Rattle.counting.specs.Places.{at}
 use Rattle.parity_check.specs.Code.{Matrix, Word}
 use Rattle.parity_check.specs.Reading.{Accepted}
 use Rattle.matrix.proofs.Weights.{weight-equal}

@@ -7,7 +7,7 @@ use native.Mathlib.Decide.{ℕ-discrete}
 use native.Mathlib.Omega.{arith}
 use lib.IntN.{subℕ}
 use Rattle.counting.proofs.Integers.{abs-sub}
-use Rattle.packed_word.specs.Steps.{at}
+use Rattle.counting.specs.Places.{at}
 use Rattle.parity_check.specs.Code.{Matrix, Word, failing}
 use Rattle.parity_check.proofs.Rows.{failing-cong}
 use Rattle.running_tally.specs.Parities.{Retallied}

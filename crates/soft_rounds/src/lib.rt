@@ -2,7 +2,7 @@
 // Rests on `soft_levels`, `running_tally` and `votes`. Document 01: "Iterative voting", steps 2 to 6.
 use parity_check::Shape;
 use votes::Stop;
-ghost use Rattle.packed_word.specs.Steps.{at};
+ghost use Rattle.counting.specs.Places.{at};
 ghost use Rattle.parity_check.specs.Shapes.{matrixOf};
 ghost use Rattle.column_index.specs.Index.{Indexed};
 ghost use Rattle.running_tally.specs.Parities.{Parities};

@@ -9,8 +9,8 @@ use native.Mathlib.Omega.{arith}
 use lib.ListN.{length, set, length-set}
 use lib.Seq.{getD-set-same, getD-set-other}
 use Rattle.counting.specs.Sum.{sum, same}
+use Rattle.counting.specs.Places.{at}
 use Rattle.counting.proofs.Sums.{sum-cong, sum-zero, sum-swap, sum-pick, sum-mul-right, same-refl, same-ne}
-use Rattle.packed_word.specs.Steps.{at}
 use Rattle.syndrome.specs.Places.{Places}
 
 -- no place is looked at yet

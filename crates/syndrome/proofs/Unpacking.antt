@@ -4,7 +4,8 @@ use mathlib.Core.List.{List}
 use Prim.Native.Nat.{ℕ}
 use native.Mathlib.Omega.{arith}
 use Rattle.packed_word.specs.Packed.{bitAt}
-use Rattle.packed_word.specs.Steps.{at, Unpacked}
+use Rattle.counting.specs.Places.{at}
+use Rattle.packed_word.specs.Steps.{Unpacked}
 use Rattle.parity_check.specs.Code.{Matrix, Word, failing}
 use Rattle.parity_check.specs.Reading.{Rows}
 use Rattle.parity_check.proofs.Rows.{failing-cong}

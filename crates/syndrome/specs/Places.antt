@@ -11,7 +11,7 @@ use mathlib.Core.List.{List}
 use Prim.Native.Nat.{ℕ, _+_, _*_, _%_, _<_, _≤_}
 use lib.ListN.{length}
 use Rattle.counting.specs.Sum.{sum, same}
-use Rattle.packed_word.specs.Steps.{at}
+use Rattle.counting.specs.Places.{at}
 
 -- a part of the list, within the largest list there is
 pub record Part (l : List ℕ) (from count : ℕ) : Type 0 where

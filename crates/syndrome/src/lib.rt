@@ -7,7 +7,7 @@ ghost use mathlib.Core.Path.{_≡_};
 ghost use Prim.Native.Nat.{_%_, _≤_};
 ghost use lib.ListN.{length};
 ghost use Rattle.answers.specs.Answers.{verdictOf};
-ghost use Rattle.packed_word.specs.Steps.{at};
+ghost use Rattle.counting.specs.Places.{at};
 ghost use Rattle.parity_check.specs.Code.{Word, fails, failing};
 ghost use Rattle.parity_check.specs.Reading.{Accepted};
 ghost use Rattle.parity_check.specs.Shapes.{matrixOf};

@@ -8,9 +8,9 @@ use native.Mathlib.Numerals.{add-one}
 use native.Mathlib.Omega.{arith}
 use lib.ListN.{length, set, replicate, length-set, length-replicate}
 use Rattle.counting.specs.Sum.{sum, same}
+use Rattle.counting.specs.Places.{at, among}
 use Rattle.counting.proofs.Sums.{sum-cong, sum-next, same-refl, same-ne}
 use Rattle.counting.proofs.Writing.{stored, zeros}
-use Rattle.packed_word.specs.Steps.{at}
 use Rattle.parity_check.specs.Code.{Matrix, entry, has, fails, failing}
 use Rattle.parity_check.specs.Reading.{Accepted}
 use Rattle.syndrome.specs.Places.{Places}
@@ -18,7 +18,7 @@ use Rattle.syndrome.proofs.Parity.{row-part}
 use Rattle.syndrome.proofs.Listing.{places-sum}
 use Rattle.majority_logic.specs.Voting.{votes}
 use Rattle.majority_logic.proofs.Correction.{votes-small}
-use Rattle.votes.specs.Tallies.{among, ofRows, Room, Parts, More, Tallied}
+use Rattle.votes.specs.Tallies.{ofRows, Room, Parts, More, Tallied}
 
 -- ---- one row
 

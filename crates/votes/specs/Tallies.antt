@@ -1,5 +1,4 @@
 -- What the votes' array holds. (Document 01, "One-step voting".)
---   among l from count j      == how often j stands among count numbers of l from a place on
 --   ofRows l rho rows t j     == how often the first t of the listed rows have column j
 --   Parts l rho rows t        == these rows are parts of l
 --   Room f v                  == f more at every place of the array v fits its bytes
@@ -10,15 +9,11 @@ use mathlib.Core.Path.{_≡_}
 use mathlib.Core.List.{List}
 use Prim.Native.Nat.{ℕ, _+_, _*_, _<_, _≤_}
 use lib.ListN.{length}
-use Rattle.counting.specs.Sum.{sum, same}
-use Rattle.packed_word.specs.Steps.{at}
+use Rattle.counting.specs.Sum.{sum}
+use Rattle.counting.specs.Places.{at, among}
 use Rattle.parity_check.specs.Code.{Matrix, failing}
 use Rattle.syndrome.specs.Places.{Part}
 use Rattle.majority_logic.specs.Voting.{votes}
-
--- a number counted in a part of a list
-unfoldable pub among : List ℕ → ℕ → ℕ → ℕ → ℕ
-among l from count j = sum count (λ k. same (at l (from + k)) j)
 
 -- a column counted in the listed rows
 unfoldable pub ofRows : List ℕ → ℕ → List ℕ → ℕ → ℕ → ℕ

@@ -2,12 +2,12 @@
 // Rests on `syndrome` and the definitions of `majority_logic`. Document 01: "One-step voting".
 use parity_check::Shape;
 use syndrome::failing_rows;
-ghost use Rattle.packed_word.specs.Steps.{at};
+ghost use Rattle.counting.specs.Places.{at, among};
 ghost use Rattle.parity_check.specs.Code.{Word};
 ghost use Rattle.parity_check.specs.Reading.{Accepted};
 ghost use Rattle.parity_check.specs.Shapes.{matrixOf};
 ghost use Rattle.syndrome.specs.Places.{Part};
-ghost use Rattle.votes.specs.Tallies.{among, ofRows, Room, Parts, More, Tallied};
+ghost use Rattle.votes.specs.Tallies.{ofRows, Room, Parts, More, Tallied};
 
 // Where voting stopped: how many rounds there were, and how many checks fail.
 pub struct Stop {

@@ -6,8 +6,8 @@ use native.Mathlib.Nat.{le-antisymm}
 use native.Mathlib.Omega.{arith}
 use lib.ListN.{length, getD, length-set}
 use Rattle.counting.specs.Lists.{listed, over}
+use Rattle.counting.specs.Places.{at}
 use Rattle.counting.proofs.Writing.{over-none, listed-getD}
-use Rattle.packed_word.specs.Steps.{at}
 use Rattle.packed_word.proofs.Storing.{over-next}
 use Rattle.codes.proofs.copy_front.Statement.{statement}
 use Rattle.codes.proofs.copy_front.Tie as tie

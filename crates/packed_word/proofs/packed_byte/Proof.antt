@@ -2,7 +2,7 @@
 use mathlib.Core.Path.{_≡_, ap, _∙_}
 use Prim.Native.Nat.{ℕ, _+_, _*_, _-_, _≤_}
 use native.Mathlib.Omega.{arith}
-use Rattle.packed_bits.specs.Steps.{at}
+use Rattle.counting.specs.Places.{at}
 use Rattle.packed_bits.proofs.Packing.{ended-bit, ended-small}
 use Rattle.packed_bits.proofs.Storing.{eight, binaryOf, binary-none, binary-more, binary-all, binary-room}
 use Rattle.packed_word.proofs.packed_byte.Statement.{statement}

@@ -2,7 +2,7 @@
 use Prim.Native.Nat.{_-_, _≤_}
 use native.Mathlib.Nat.{le-antisymm}
 use native.Mathlib.Omega.{arith}
-use Rattle.packed_word.specs.Steps.{at}
+use Rattle.counting.specs.Places.{at}
 use Rattle.syndrome.proofs.Parity.{row-is}
 use Rattle.running_tally.specs.Parities.{RowParities}
 use Rattle.running_tally.proofs.Keeping.{rows-none, rows-step}

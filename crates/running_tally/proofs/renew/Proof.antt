@@ -1,6 +1,6 @@
 -- `running_tally::renew`: the parities of all rows anew, or those of flipped bits' checks turned over.
 use borrow.Author.Needs.{needs}
-use Rattle.packed_word.specs.Steps.{at}
+use Rattle.counting.specs.Places.{at}
 use Rattle.parity_check.specs.Shapes.{matrixOf}
 use Rattle.syndrome.proofs.Parity.{checks}
 use Rattle.running_tally.proofs.Keeping.{columns, turned-parities, rows-parities}

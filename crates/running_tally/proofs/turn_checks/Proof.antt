@@ -2,7 +2,7 @@
 use Prim.Native.Nat.{_-_, _≤_}
 use native.Mathlib.Nat.{le-antisymm}
 use native.Mathlib.Omega.{arith}
-use Rattle.votes.specs.Tallies.{among}
+use Rattle.counting.specs.Places.{among}
 use Rattle.running_tally.specs.Parities.{Turned}
 use Rattle.running_tally.proofs.Turning.{checks-none, checks-step}
 use Rattle.running_tally.proofs.turn_checks.Statement.{statement}

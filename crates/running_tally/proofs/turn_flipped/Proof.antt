@@ -2,7 +2,7 @@
 use Prim.Native.Nat.{_-_, _≤_}
 use native.Mathlib.Nat.{le-antisymm}
 use native.Mathlib.Omega.{arith}
-use Rattle.packed_word.specs.Steps.{at}
+use Rattle.counting.specs.Places.{at}
 use Rattle.running_tally.specs.Parities.{Turned, flips}
 use Rattle.running_tally.proofs.Turning.{turned-bits, flips-none, flips-step}
 use Rattle.running_tally.proofs.turn_flipped.Statement.{statement}

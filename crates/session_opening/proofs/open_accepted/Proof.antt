@@ -1,6 +1,6 @@
 -- `session_opening::open_accepted` meets its contract: the levels and the hard bits, and the counts on them. Assumes nothing.
 use borrow.Author.Needs.{needs}
-use Rattle.packed_word.specs.Steps.{at}
+use Rattle.counting.specs.Places.{at}
 use Rattle.parity_check.specs.Code.{Matrix, Word}
 use Rattle.parity_check.specs.Shapes.{matrixOf}
 use Rattle.quantiser.specs.Settings.{choiceOf}

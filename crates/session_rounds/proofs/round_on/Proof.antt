@@ -1,6 +1,6 @@
 -- `session_rounds::round_on` meets its contract: the arrays hold the state that is lent, and then the state after a round. Assumes nothing.
 use borrow.Author.Needs.{needs}
-use Rattle.packed_word.specs.Steps.{at}
+use Rattle.counting.specs.Places.{at}
 use Rattle.parity_check.specs.Code.{Matrix, Word}
 use Rattle.parity_check.specs.Shapes.{matrixOf}
 use Rattle.syndrome.proofs.Unpacking.{unpacked-word}

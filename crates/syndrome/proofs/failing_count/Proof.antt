@@ -4,7 +4,7 @@ use mathlib.Core.Path.{_≡_, refl, ap, _∙_}
 use native.Mathlib.Nat.{le-antisymm}
 use native.Mathlib.Omega.{arith}
 use Rattle.counting.specs.Sum.{sum}
-use Rattle.packed_word.specs.Steps.{at}
+use Rattle.counting.specs.Places.{at}
 use Rattle.parity_check.specs.Code.{failing}
 use Rattle.parity_check.specs.Shapes.{matrixOf}
 use Rattle.syndrome.specs.Places.{rowFails}

@@ -1,7 +1,7 @@
 -- `syndrome::failing_rows`: the rows that `list_failing` lists are those whose checks fail.
 use borrow.Author.Needs.{needs}
 use native.Mathlib.Omega.{arith}
-use Rattle.packed_word.specs.Steps.{at}
+use Rattle.counting.specs.Places.{at}
 use Rattle.parity_check.specs.Shapes.{matrixOf}
 use Rattle.syndrome.proofs.Parity.{checks, row-fails}
 use Rattle.syndrome.proofs.failing_rows.Statement.{statement}

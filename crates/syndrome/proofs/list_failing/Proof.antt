@@ -3,7 +3,7 @@ use Prim.Native.Nat.{_-_, _≤_}
 use mathlib.Core.Path.{sym, _∙_}
 use native.Mathlib.Nat.{le-antisymm}
 use native.Mathlib.Omega.{arith}
-use Rattle.packed_word.specs.Steps.{at}
+use Rattle.counting.specs.Places.{at}
 use Rattle.syndrome.specs.Places.{rowFails, Places}
 use Rattle.syndrome.proofs.Parity.{row-is}
 use Rattle.syndrome.proofs.Listing.{places-none, places-step}

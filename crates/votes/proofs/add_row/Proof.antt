@@ -2,8 +2,8 @@
 use Prim.Native.Nat.{ℕ, _+_, _-_, _≤_}
 use native.Mathlib.Nat.{le-antisymm}
 use native.Mathlib.Omega.{arith}
-use Rattle.packed_word.specs.Steps.{at}
-use Rattle.votes.specs.Tallies.{among, More}
+use Rattle.counting.specs.Places.{at, among}
+use Rattle.votes.specs.Tallies.{More}
 use Rattle.votes.proofs.Adding.{among-none, among-next, among-step}
 use Rattle.votes.proofs.add_row.Statement.{statement}
 use Rattle.votes.proofs.add_row.Tie as tie

@@ -1,6 +1,6 @@
 -- `votes::tally`: the failing rows, added to a cleared array, are the votes.
 use borrow.Author.Needs.{needs}
-use Rattle.packed_word.specs.Steps.{at}
+use Rattle.counting.specs.Places.{at}
 use Rattle.parity_check.specs.Shapes.{matrixOf}
 use Rattle.votes.proofs.Adding.{failing-parts, failing-room, tallied}
 use Rattle.votes.proofs.tally.Statement.{statement}
