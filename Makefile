@@ -14,7 +14,7 @@ RESULTS ?= build/results.csv
 # Blocks that stay open (status 1) are no fault.
 run: tools
 	@echo "The first run proves and builds all it needs, which takes about two minutes (build/run.log tells how far it is); later runs take seconds."
-	@mkdir -p build && rt check decode codes record_open record_step one_step failing_checks >build/run.log || { cat build/run.log; exit 1; }
+	@mkdir -p build && rt check decode ffi_codes session_open session_step one_step failing_checks >build/run.log || { cat build/run.log; exit 1; }
 	@$(MAKE) --no-print-directory target/staticlib/libffi.a mlgd >>build/run.log || { cat build/run.log; exit 1; }
 	build/release/mlgd decode --matrix "$(MATRIX)" --setting "$(SETTING)" --samples "$(SAMPLES)" --out "$(RESULTS)" || test $$? -eq 1
 	@if build/release/mlgd map --help >/dev/null 2>&1; then build/release/mlgd map "$(RESULTS)" --out "$(RESULTS:.csv=.svg)"; fi
@@ -24,7 +24,7 @@ run: tools
 # What `ffi` rests on is checked with the program, as `rt staticlib` would check it crate after crate.
 test: tools
 	rt fmt --check
-	rt check decode record_open record_step codes one_step failing_checks
+	rt check decode session_open session_step ffi_codes one_step failing_checks
 	$(MAKE) --no-print-directory -j2 staticlib reference
 	cargo test --release --workspace
 	rt ci

@@ -1,4 +1,4 @@
 // The program: decodes blocks of samples by iterative voting. Its input here is P6 of document 01.
 fn main() {
-    stream::run();
+    program::run();
 }

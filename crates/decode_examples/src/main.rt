@@ -1,4 +1,4 @@
 // The program on the example block set: its input is packed from examples/, its output is the reference decoder's.
 fn main() {
-    stream::run();
+    program::run();
 }

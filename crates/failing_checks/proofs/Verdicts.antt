@@ -8,8 +8,8 @@ use mathlib.Core.List.{List}
 use Prim.Native.Nat.{ℕ}
 use Rattle.answers.specs.Paper.{Verdict, accepted, refused, refusal, report, after}
 use Rattle.packed_word.specs.Packed.{bitAt, bytesFor}
-use Rattle.parity_check.specs.Code.{Matrix, failing}
-use Rattle.parity_check.specs.Check.{checkOf}
+use Rattle.matrix.specs.Code.{Matrix, failing}
+use Rattle.matrix.specs.Check.{checkOf}
 use Rattle.syndrome.specs.Failing.{wordVerdict, failingVerdict, failingOf}
 
 module _ (H : Matrix) (w : List ℕ) where

@@ -1,19 +1,19 @@
 // How many checks of a received word fail: the whole call.
-// Rests on `syndrome`, `parity_check` and `packed_word`. Document 01: "The code and the block"; refusals 1 to 5, 7 and 9.
+// Rests on `syndrome`, `matrix_check` and `packed_word`. Document 01: "The code and the block"; refusals 1 to 5, 7 and 9.
 use answers::Checked;
 use answers::Counted;
+use matrix_check::Shape;
+use matrix_check::check;
 use packed_word::unpack;
-use parity_check::Shape;
-use parity_check::check;
 use syndrome::ask_word;
 use syndrome::failing_count;
 ghost use mathlib.Core.Path.{_≡_};
 ghost use lib.ListN.{length};
 ghost use Rattle.answers.specs.Answers.{countedOf};
 ghost use Rattle.packed_word.specs.Packed.{bitAt, bytesFor};
-ghost use Rattle.parity_check.specs.Code.{failing};
-ghost use Rattle.parity_check.specs.Reading.{Accepted};
-ghost use Rattle.parity_check.specs.Shapes.{matrixOf};
+ghost use Rattle.matrix.specs.Code.{failing};
+ghost use Rattle.matrix.specs.Reading.{Accepted};
+ghost use Rattle.matrix.specs.Shapes.{matrixOf};
 ghost use Rattle.syndrome.specs.Failing.{failingOf};
 
 // The failing checks of a received word that has its bytes.

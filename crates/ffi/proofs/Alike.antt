@@ -8,13 +8,13 @@ use lib.Ieee.{Float}
 use lib.ListN.{length}
 use Rattle.counting.proofs.Searches.{cases}
 use Rattle.answers.specs.Paper.{Verdict, accepted, refused, Said, andThen, after, written}
-use Rattle.parity_check.specs.Code.{Matrix}
-use Rattle.parity_check.specs.Check.{checkOf}
-use Rattle.quantiser.specs.Samples.{Choice, settingFits, quantiseVerdict}
+use Rattle.matrix.specs.Code.{Matrix}
+use Rattle.matrix.specs.Check.{checkOf}
+use Rattle.quantiser_levels.specs.Samples.{Choice, settingFits, quantiseVerdict}
 use Rattle.quantiser.specs.Filling.{Quantised}
-use Rattle.iterative.specs.Iterative.{samplesVerdict, iterativeVerdict, iterativeOf, iterativeWord, iterativeLevels}
-use Rattle.iterative.specs.Calls.{Answered}
-use Rattle.codes.specs.Settings.{StandsFor}
+use Rattle.iterative_core.specs.Iterative.{samplesVerdict, iterativeVerdict, iterativeOf, iterativeWord, iterativeLevels}
+use Rattle.iterative_core.specs.Calls.{Answered}
+use Rattle.ffi_codes.specs.Settings.{StandsFor}
 
 -- what a refusal by 6 says and writes does not turn on the setting
 module _ (v : Verdict) where

@@ -10,19 +10,19 @@ use Rattle.counting.proofs.Searches.{cases}
 use Rattle.answers.specs.Paper.{Verdict, accepted, refused, Said, andThen, after}
 use Rattle.packed_word.specs.Packed.{bitAt}
 use Rattle.packed_word.proofs.Distances.{distance-le}
-use Rattle.parity_check.specs.Code.{Matrix, failing}
-use Rattle.parity_check.specs.Check.{checkOf}
-use Rattle.parity_check.specs.Reading.{Accepted}
-use Rattle.parity_check.proofs.Rows.{failing-le}
-use Rattle.parity_check.proofs.Reading.{accepted-is}
+use Rattle.matrix.specs.Code.{Matrix, failing}
+use Rattle.matrix.specs.Check.{checkOf}
+use Rattle.matrix.specs.Reading.{Accepted}
+use Rattle.matrix.proofs.Rows.{failing-le}
+use Rattle.matrix.proofs.Reading.{accepted-is}
 use Rattle.syndrome.specs.Failing.{failingVerdict, failingOf}
 use Rattle.majority_logic.specs.OneStep.{stepWord, stepRounds, oneStepReport, oneStepVerdict, oneStepOf}
-use Rattle.quantiser.specs.Samples.{Choice, settingFits, largest, hardBit}
-use Rattle.quantiser.proofs.Ranges.{fits-reads}
-use Rattle.iterative.specs.Iterative.{startOf, endFrom, reportAt, samplesVerdict, iterativeVerdict, iterativeOf}
-use Rattle.iterative.proofs.Ends.{rounds-within}
+use Rattle.quantiser_levels.specs.Samples.{Choice, settingFits, largest, hardBit}
+use Rattle.quantiser_settings.proofs.Ranges.{fits-reads}
+use Rattle.iterative_core.specs.Iterative.{startOf, endFrom, reportAt, samplesVerdict, iterativeVerdict, iterativeOf}
+use Rattle.iterative_rounds.proofs.Ends.{rounds-within}
 use Rattle.iterative_core.proofs.Changes.{changed-le}
-use Rattle.codes.specs.Codes.{Small}
+use Rattle.ffi_codes.specs.Codes.{Small}
 
 -- an answer is small where its report is so on an accepted matrix
 after-small : (v w : Verdict) (s : Said) → (v ≡ accepted → Small s) → Small (after (andThen v w) s)

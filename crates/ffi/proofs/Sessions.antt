@@ -14,24 +14,24 @@ use Rattle.answers.specs.Answers.{saidOf}
 use Rattle.answers.specs.declared.Answer.{Answer}
 use Rattle.packed_word.specs.Packed.{bitAt}
 use Rattle.iterative_core.proofs.Changes.{changed-le}
-use Rattle.parity_check.specs.Code.{Matrix, failing}
-use Rattle.parity_check.specs.Check.{checkOf}
-use Rattle.parity_check.specs.Reading.{Accepted}
-use Rattle.quantiser.specs.Samples.{Choice, settingFits, hardBit}
-use Rattle.iterative.specs.Iterative.{startOf}
+use Rattle.matrix.specs.Code.{Matrix, failing}
+use Rattle.matrix.specs.Check.{checkOf}
+use Rattle.matrix.specs.Reading.{Accepted}
+use Rattle.quantiser_levels.specs.Samples.{Choice, settingFits, hardBit}
+use Rattle.iterative_core.specs.Iterative.{startOf}
 use Rattle.session_record.specs.Record.{Course, Record, courseIn}
 use Rattle.session_asking.specs.Asked.{Held, openVerdict, stepVerdict}
-use Rattle.session_steps.specs.Steps.{Left, courseFor, saysAt, openOf, steppedState, stepOf}
+use Rattle.session.specs.Steps.{Left, courseFor, saysAt, openOf, steppedState, stepOf}
 use Rattle.session_record.specs.Sessions.{recordOf}
-use Rattle.session_steps.specs.Leaving.{Leaves}
+use Rattle.session.specs.Leaving.{Leaves}
 use Rattle.session_record.specs.declared.Session.{Session}
 use Rattle.session_asking.proofs.Asking.{accepted-open, accepted-step}
-use Rattle.session_steps.proofs.Leaving.{refused-open-keeps, refused-step-keeps, accepted-opens, accepted-steps}
-use Rattle.codes.specs.Codes.{codeOf, Small}
-use Rattle.codes.specs.Records.{recordCells, cellsOf, writtenBy}
-use Rattle.codes.specs.Settings.{StandsFor}
+use Rattle.session.proofs.Leaving.{refused-open-keeps, refused-step-keeps, accepted-opens, accepted-steps}
+use Rattle.ffi_codes.specs.Codes.{codeOf, Small}
+use Rattle.ffi_codes.specs.Records.{recordCells, cellsOf, writtenBy}
+use Rattle.ffi_codes.specs.Settings.{StandsFor}
 use Rattle.ffi.specs.Calls.{leftBy, onRecord, CalledAs}
-use Rattle.parity_check.proofs.Rows.{failing-le}
+use Rattle.matrix.proofs.Rows.{failing-le}
 use Rattle.ffi.proofs.Alike.{unfit-verdict}
 
 -- a verdict accepts or refuses

@@ -14,13 +14,13 @@ use lib.IntN.{ℤ}
 use lib.Ieee.{Float}
 use lib.ListN.{length}
 use Rattle.answers.specs.Paper.{refusal, report, after, written}
-use Rattle.parity_check.specs.Code.{Matrix}
-use Rattle.quantiser.specs.Samples.{Choice, quantiseVerdict, levelsOf, hardWord}
-use Rattle.iterative.specs.Iterative.{iterativeVerdict, iterativeOf, iterativeWord, iterativeLevels}
+use Rattle.matrix.specs.Code.{Matrix}
+use Rattle.quantiser_levels.specs.Samples.{Choice, quantiseVerdict, levelsOf, hardWord}
+use Rattle.iterative_core.specs.Iterative.{iterativeVerdict, iterativeOf, iterativeWord, iterativeLevels}
 use Rattle.session_asking.specs.Asked.{Held}
-use Rattle.session_steps.specs.Steps.{Left}
-use Rattle.codes.specs.Codes.{codeOf}
-use Rattle.codes.specs.Records.{recordCells, cellsOf, writtenBy}
+use Rattle.session.specs.Steps.{Left}
+use Rattle.ffi_codes.specs.Codes.{codeOf}
+use Rattle.ffi_codes.specs.Records.{recordCells, cellsOf, writtenBy}
 
 -- the quantiser: the code, the levels and the word, refused calls too
 pub record QuantisedAs (S : Choice) (xs : List Float) (r : ℕ) (ls ls′ : List ℤ) (w w′ : List ℕ) : Type 0 where

@@ -1,25 +1,25 @@
 // Exported functions for tests and benchmarks: each answer is one number of 64 bits.
-// Rests on every decoder and on `codes`. Design, section 4: the test face.
-use codes::RECORD_CELLS;
-use codes::answer_code;
-use codes::checked_code;
-use codes::counted_code;
-use codes::session_in;
-use codes::setting_of;
-use codes::turn_code;
-use parity_check::Shape;
+// Rests on every decoder and on `ffi_codes`. Design, section 4: the test face.
+use ffi_codes::RECORD_CELLS;
+use ffi_codes::answer_code;
+use ffi_codes::checked_code;
+use ffi_codes::counted_code;
+use ffi_codes::session_in;
+use ffi_codes::setting_of;
+use ffi_codes::turn_code;
+use matrix_check::Shape;
 ghost use mathlib.Core.Path.{_≡_};
 ghost use lib.ListN.{length};
 ghost use Rattle.answers.specs.Paper.{report, after, written};
-ghost use Rattle.parity_check.specs.Code.{matrix};
-ghost use Rattle.parity_check.specs.Check.{checkOf};
+ghost use Rattle.matrix.specs.Code.{matrix};
+ghost use Rattle.matrix.specs.Check.{checkOf};
 ghost use Rattle.syndrome.specs.Failing.{failingOf};
 ghost use Rattle.majority_logic.specs.OneStep.{oneStepVerdict, oneStepOf, oneStepWord};
 ghost use Rattle.session_asking.specs.Asked.{lent};
-ghost use Rattle.session_steps.specs.Steps.{openOf, stepOf};
-ghost use Rattle.codes.specs.Codes.{codeOf};
-ghost use Rattle.codes.specs.Records.{recordIn};
-ghost use Rattle.codes.specs.Settings.{choice};
+ghost use Rattle.session.specs.Steps.{openOf, stepOf};
+ghost use Rattle.ffi_codes.specs.Codes.{codeOf};
+ghost use Rattle.ffi_codes.specs.Records.{recordIn};
+ghost use Rattle.ffi_codes.specs.Settings.{choice};
 ghost use Rattle.ffi.specs.Calls.{QuantisedAs, DecodedAs, onRecord, CalledAs};
 
 // Refusal 7: what a call answers that is lent another number of cells than a record's.
@@ -31,7 +31,7 @@ pub extern "C" fn mlgd_check(n: u16, m: u16, rho: u16, gamma: u16, list: &[u16])
     ensures { λ r. ⌜ r ≡ codeOf (after (checkOf (matrix n m rho gamma (now (list .entry)))) (report 0 0 0 0)) ⌝ }
 {
     let shape = Shape { n, m, rho, gamma };
-    checked_code(parity_check::check(shape, list))
+    checked_code(matrix_check::check(shape, list))
 }
 
 // The count of failing checks in a received word.
@@ -141,7 +141,7 @@ pub extern "C" fn mlgd_open(
     let shape = Shape { n, m, rho, gamma };
     let setting = setting_of(bits, limit, kind, step);
     let s = session_in(cells);
-    let turn = record_open::open_copy(s, shape, list, setting, samples, word, levels);
+    let turn = session_open::open_copy(s, shape, list, setting, samples, word, levels);
     turn_code(turn, cells)
 }
 
@@ -165,6 +165,6 @@ pub extern "C" fn mlgd_step(
     }
     let shape = Shape { n, m, rho, gamma };
     let s = session_in(cells);
-    let turn = record_step::step_copy(s, shape, list, received, word, levels);
+    let turn = session_step::step_copy(s, shape, list, received, word, levels);
     turn_code(turn, cells)
 }

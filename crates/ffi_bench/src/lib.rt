@@ -1,16 +1,16 @@
 // The core of one-step voting as an exported function, for the benchmark alone, which asks `mlgd_check` first.
 // An archive of its own: it is the one exported function with a `requires`, and no user links it.
-// Rests on `one_step`, on `codes`, and for one law on `ffi`. Design, section 4: the test face.
+// Rests on `one_step`, on `ffi_codes`, and for one law on `ffi`. Design, section 4: the test face.
 use answers::Answer;
-use codes::answer_code;
-use parity_check::Shape;
+use ffi_codes::answer_code;
+use matrix_check::Shape;
 ghost use mathlib.Core.Path.{_≡_};
 ghost use Rattle.counting.specs.Lists.{over};
 ghost use Rattle.packed_word.specs.Packed.{bitAt};
-ghost use Rattle.parity_check.specs.Code.{matrix};
+ghost use Rattle.matrix.specs.Code.{matrix};
 ghost use Rattle.majority_logic.specs.OneStep.{oneStepReport, oneStepWord};
-ghost use Rattle.one_step.specs.Stepped.{Lent};
-ghost use Rattle.codes.specs.Codes.{codeOf};
+ghost use Rattle.one_step_core.specs.Stepped.{Lent};
+ghost use Rattle.ffi_codes.specs.Codes.{codeOf};
 
 // One-step voting on an accepted matrix, a word and a buffer that suit it.
 #[no_mangle]

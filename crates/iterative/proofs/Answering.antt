@@ -11,11 +11,11 @@ use lib.IntN.{ℤ}
 use lib.Ieee.{Float}
 use lib.ListN.{length}
 use Rattle.answers.specs.Paper.{accepted, refused, Said, refusal}
-use Rattle.parity_check.specs.Code.{Matrix}
-use Rattle.parity_check.specs.Check.{checkOf}
-use Rattle.parity_check.specs.Reading.{Accepted}
-use Rattle.parity_check.proofs.Reading.{is-accepted}
-use Rattle.quantiser.specs.Samples.{Choice}
+use Rattle.matrix.specs.Code.{Matrix}
+use Rattle.matrix.specs.Check.{checkOf}
+use Rattle.matrix.specs.Reading.{Accepted}
+use Rattle.matrix.proofs.Reading.{is-accepted}
+use Rattle.quantiser_levels.specs.Samples.{Choice}
 use Rattle.iterative_core.specs.Iterative.{samplesVerdict, iterativeVerdict, iterativeOf}
 use Rattle.iterative_core.specs.Calls.{Decoded, Answered}
 use Rattle.iterative_rule.specs.Claims.{IterativeRule, AmpleLimit}

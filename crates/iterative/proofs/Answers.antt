@@ -9,11 +9,11 @@ use native.Mathlib.Omega.{arith}
 use borrow.Author.Tests.{eq-eqb, ne-eqb}
 use lib.Ieee.{Float}
 use Rattle.answers.specs.Paper.{Verdict, accepted, refused, Said, refusal, report, outcomeBy, after}
-use Rattle.parity_check.specs.Code.{Matrix, failing}
-use Rattle.quantiser.specs.Samples.{Choice, largest, hardBit}
+use Rattle.matrix.specs.Code.{Matrix, failing}
+use Rattle.quantiser_levels.specs.Samples.{Choice, largest, hardBit}
 use Rattle.iterative_core.specs.Iterative.{startOf, changedBits, endFrom, reportAt, iterativeVerdict, iterativeOf}
-use Rattle.soft_rounds.specs.Stages.{Promised}
-use Rattle.soft_rounds.proofs.Ends.{rounds-within, fails-at-limit}
+use Rattle.iterative_rounds.specs.Stages.{Promised}
+use Rattle.iterative_rounds.proofs.Ends.{rounds-within, fails-at-limit}
 
 -- ---- an outcome by the failing checks
 

@@ -1,15 +1,15 @@
 // Reliability-based iterative majority-logic decoding of samples: the whole call.
-// Rests on `iterative_core`, `iterative_rule`, `column_index`, `quantiser` and `parity_check`. Document 01: "Iterative voting"; refusals 1 to 8.
+// Rests on `iterative_core`, `iterative_rule`, `matrix_index`, `quantiser` and `matrix_check`. Document 01: "Iterative voting"; refusals 1 to 8.
 use answers::Answer;
 use answers::Checked;
 use answers::Report;
 pub use iterative_core::iterative_accepted;
-use parity_check::Shape;
+use matrix_check::Shape;
 use quantiser::Setting;
 ghost use Rattle.answers.specs.Answers.{reportOf, saidOf};
-ghost use Rattle.parity_check.specs.Reading.{Accepted};
-ghost use Rattle.parity_check.specs.Shapes.{matrixOf};
-ghost use Rattle.quantiser.specs.Settings.{choiceOf};
+ghost use Rattle.matrix.specs.Reading.{Accepted};
+ghost use Rattle.matrix.specs.Shapes.{matrixOf};
+ghost use Rattle.quantiser_settings.specs.Settings.{choiceOf};
 ghost use Rattle.iterative_core.specs.Calls.{Lent, Decoded, Answered};
 ghost use Rattle.iterative_rule.specs.Claims.{IterativeRule, AmpleLimit};
 
@@ -26,7 +26,7 @@ fn with_index(
     ensures { λ r. ⌜ Decoded (matrixOf shape (now (list .entry))) (choiceOf setting) (now (samples .entry)) (reportOf r) (now (word .entry)) (now (word .exit)) (now (levels .entry)) (now (levels .exit)) ⌝ }
 {
     let mut index = [0u16; 32736];
-    column_index::build(shape, list, &mut index);
+    matrix_index::build(shape, list, &mut index);
     iterative_accepted(shape, list, &index, setting, samples, word, levels)
 }
 
@@ -63,7 +63,7 @@ pub fn iterative(
     ensures flipping_rule { λ r. ⌜ IterativeRule (matrixOf shape (now (list .entry))) (choiceOf setting) (now (samples .entry)) (now (word .entry)) (now (word .exit)) (now (levels .entry)) (saidOf r) ⌝ }
     ensures ample_limit { λ r. ⌜ AmpleLimit (matrixOf shape (now (list .entry))) (choiceOf setting) (now (samples .entry)) (now (word .entry)) (now (word .exit)) (now (levels .entry)) (saidOf r) ⌝ }
 {
-    match parity_check::check(shape, list) {
+    match matrix_check::check(shape, list) {
         Checked::Accepted => on_accepted(shape, list, setting, samples, word, levels),
         Checked::Refused(f) => Answer::Refused(f),
     }

@@ -13,7 +13,7 @@ use lib.Ieee.{Float}
 use lib.ListN.{length}
 use Rattle.answers.specs.Paper.{accepted, refused, wrongLengths}
 use Rattle.packed_word.specs.Packed.{bytesFor}
-use Rattle.quantiser.specs.Samples.{Choice, settingFits, firstNotFinite}
+use Rattle.quantiser_levels.specs.Samples.{Choice, settingFits, firstNotFinite}
 use Rattle.iterative_core.specs.Iterative.{samplesVerdict}
 
 module _ (n : ℕ) (S : Choice) (xs : List Float) (bytes room : ℕ) where

@@ -12,7 +12,7 @@ use Rattle.counting.specs.Sum.{differ}
 use Rattle.counting.proofs.Sums.{sum-cong}
 use Rattle.packed_word.specs.Packed.{distance}
 use Rattle.packed_word.proofs.Distances.{distance-cong, distance-self, distance-le}
-use Rattle.parity_check.specs.Code.{Matrix}
+use Rattle.matrix.specs.Code.{Matrix}
 use Rattle.iterative_core.specs.Iterative.{changedIn, changedBits}
 
 module _ (H : Matrix) where

@@ -14,21 +14,21 @@ use Rattle.answers.specs.Paper.{Said, report, outcomeBy}
 use Rattle.packed_word.specs.Packed.{bitAt, bytesFor, pack, distance}
 use Rattle.packed_word.proofs.Packing.{length-pack, bitAt-pack, spare-pack, pack-cong}
 use Rattle.packed_word.proofs.Distances.{distance-cong, distance-spare}
-use Rattle.parity_check.specs.Code.{Matrix}
-use Rattle.quantiser.specs.Samples.{Choice, settingFits, largest, levelOf, levelsOf, hardBit}
+use Rattle.matrix.specs.Code.{Matrix}
+use Rattle.quantiser_levels.specs.Samples.{Choice, settingFits, largest, levelOf, levelsOf, hardBit}
 use Rattle.quantiser.specs.Filling.{Filled}
-use Rattle.quantiser.proofs.Ranges.{fits-reads, largest-most, level-bound, hard-bit-at}
-use Rattle.soft_levels.specs.Levels.{biased, unbiased, Bounded, Biased, Restorable}
-use Rattle.soft_levels.proofs.Levels.{biased-le}
-use Rattle.soft_rounds.specs.Rounds.{endOf}
+use Rattle.quantiser_settings.proofs.Ranges.{fits-reads, largest-most, level-bound, hard-bit-at}
+use Rattle.iterative_levels.specs.Levels.{biased, unbiased, Bounded, Biased, Restorable}
+use Rattle.iterative_levels.proofs.Levels.{biased-le}
+use Rattle.iterative_rounds.specs.Rounds.{endOf}
 use Rattle.iterative_core.specs.Iterative.{startOf, changedBits, endFrom, reportAt, iterativeWord, iterativeLevels}
 use Rattle.iterative_core.proofs.Changes.{changed-all}
-use Rattle.soft_rounds.specs.Stages.{stateAt, Alike, AlikeEnds}
-use Rattle.soft_rounds.specs.Runs.{stateOf, Holds, Ready, Stopped, Ran}
+use Rattle.iterative_rounds.specs.Stages.{stateAt, Alike, AlikeEnds}
+use Rattle.iterative_rounds.specs.Runs.{stateOf, Holds, Ready, Stopped, Ran}
 use Rattle.iterative_core.specs.Calls.{Lent, Started, Decoded}
-use Rattle.soft_rounds.proofs.Ends.{levels-bound, end-state, ends-alike, failing-alike-end}
-use Rattle.soft_rounds.proofs.Holding.{holds-word}
-use Rattle.soft_rounds.proofs.Running.{holds-alike, alike-holds}
+use Rattle.iterative_rounds.proofs.Ends.{levels-bound, end-state, ends-alike, failing-alike-end}
+use Rattle.iterative_rounds.proofs.Holding.{holds-word}
+use Rattle.iterative_rounds.proofs.Running.{holds-alike, alike-holds}
 
 -- ---- step 1
 

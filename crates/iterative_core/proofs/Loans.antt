@@ -15,10 +15,10 @@ use Rattle.counting.proofs.Searches.{first-le}
 use Rattle.answers.specs.Paper.{accepted}
 use Rattle.answers.proofs.Verdicts.{passed, passed-on, lengths-fit}
 use Rattle.packed_word.specs.Packed.{bytesFor}
-use Rattle.parity_check.specs.Code.{Matrix}
-use Rattle.parity_check.specs.Reading.{Accepted}
-use Rattle.parity_check.proofs.Reading.{accepted-is}
-use Rattle.quantiser.specs.Samples.{Choice, settingFits, notFinite, firstNotFinite}
+use Rattle.matrix.specs.Code.{Matrix}
+use Rattle.matrix.specs.Reading.{Accepted}
+use Rattle.matrix.proofs.Reading.{accepted-is}
+use Rattle.quantiser_levels.specs.Samples.{Choice, settingFits, notFinite, firstNotFinite}
 use Rattle.iterative_core.specs.Iterative.{samplesVerdict, iterativeVerdict}
 use Rattle.iterative_core.specs.Calls.{Lent}
 

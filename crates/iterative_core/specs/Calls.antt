@@ -14,11 +14,11 @@ use lib.ListN.{length}
 use Rattle.counting.specs.Lists.{over}
 use Rattle.answers.specs.Paper.{Said, written}
 use Rattle.packed_word.specs.Packed.{bytesFor}
-use Rattle.parity_check.specs.Code.{Matrix}
-use Rattle.parity_check.specs.Reading.{Accepted}
-use Rattle.quantiser.specs.Samples.{Choice, settingFits, largest, levelsOf, hardBit, firstNotFinite}
+use Rattle.matrix.specs.Code.{Matrix}
+use Rattle.matrix.specs.Reading.{Accepted}
+use Rattle.quantiser_levels.specs.Samples.{Choice, settingFits, largest, levelsOf, hardBit, firstNotFinite}
 use Rattle.iterative_core.specs.Iterative.{startOf, endFrom, reportAt, iterativeVerdict, iterativeOf, iterativeWord, iterativeLevels}
-use Rattle.soft_rounds.specs.Runs.{Holds}
+use Rattle.iterative_rounds.specs.Runs.{Holds}
 
 pub record Lent (H : Matrix) (S : Choice) (xs : List Float) (w : List ℕ) (ls : List ℤ) : Type 0 where
   pub matrix : Accepted H

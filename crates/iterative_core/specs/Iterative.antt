@@ -19,10 +19,10 @@ use Rattle.counting.specs.Sum.{sum, differ}
 use Rattle.counting.specs.Lists.{listed}
 use Rattle.answers.specs.Paper.{Verdict, accepted, refuseWhen, refuseAt, andThen, wrongLengths, Said, report, outcomeBy, after}
 use Rattle.packed_word.specs.Packed.{bytesFor, pack}
-use Rattle.parity_check.specs.Code.{Matrix, failing}
-use Rattle.parity_check.specs.Check.{checkOf}
-use Rattle.quantiser.specs.Samples.{Choice, settingFits, largest, levelOf, hardBit, firstNotFinite}
-use Rattle.soft_rounds.specs.Rounds.{State, state, End, endOf}
+use Rattle.matrix.specs.Code.{Matrix, failing}
+use Rattle.matrix.specs.Check.{checkOf}
+use Rattle.quantiser_levels.specs.Samples.{Choice, settingFits, largest, levelOf, hardBit, firstNotFinite}
+use Rattle.iterative_rounds.specs.Rounds.{State, state, End, endOf}
 
 -- "k = 0; z is the hard bits; R is the levels"
 unfoldable pub startOf : Choice → List Float → State

@@ -1,20 +1,20 @@
 // Iterative voting on a matrix, a setting and samples that are known to be accepted, and what is asked of setting and samples before.
-// Rests on `soft_rounds`, `quantiser` and `packed_word`. Document 01: "Iterative voting"; refusals 6 to 8.
+// Rests on `iterative_rounds`, `quantiser` and `packed_word`. Document 01: "Iterative voting"; refusals 6 to 8.
 use answers::Checked;
 use answers::Refusal;
 use answers::Report;
-use parity_check::Shape;
+use matrix_check::Shape;
 use quantiser::Setting;
 ghost use mathlib.Core.Path.{_≡_};
 ghost use Prim.Native.Nat.{_*_, _≤_};
 ghost use lib.ListN.{length, take};
 ghost use Rattle.answers.specs.Answers.{verdictOf, reportOf};
 ghost use Rattle.packed_word.specs.Packed.{bitAt, bytesFor, distance};
-ghost use Rattle.parity_check.specs.Shapes.{matrixOf};
-ghost use Rattle.quantiser.specs.Samples.{mostBits, largest};
-ghost use Rattle.quantiser.specs.Settings.{choiceOf};
+ghost use Rattle.matrix.specs.Shapes.{matrixOf};
+ghost use Rattle.quantiser_levels.specs.Samples.{mostBits, largest};
+ghost use Rattle.quantiser_settings.specs.Settings.{choiceOf};
 ghost use Rattle.quantiser.specs.Filling.{Fillable};
-ghost use Rattle.column_index.specs.Index.{Indexed};
+ghost use Rattle.matrix_index.specs.Index.{Indexed};
 ghost use Rattle.iterative_core.specs.Iterative.{samplesVerdict};
 ghost use Rattle.iterative_core.specs.Calls.{Lent, Started, Decoded};
 
@@ -23,7 +23,7 @@ pub fn middle_of(bits: u16) -> u8
     requires { ⌜ (2 ≤ bits) × (bits ≤ mostBits) ⌝ }
     ensures { λ r. ⌜ r ≡ largest bits ⌝ }
 {
-    sample_levels::largest_of(bits)
+    quantiser_levels::largest_of(bits)
 }
 
 // What is asked of the setting, the samples and the written buffers: 6, 7, 8.
@@ -76,7 +76,7 @@ fn start(
 {
     let n = samples.len();
     quantiser::fill(setting, samples, levels, bits);
-    soft_levels::bias(levels, n, middle, kept);
+    iterative_levels::bias(levels, n, middle, kept);
 }
 
 // The core, for a matrix, its index, a setting and samples that are known to be accepted.
@@ -101,9 +101,9 @@ pub fn iterative_accepted(
     let mut hard = [0u8; 128];
     start(setting, samples, middle, levels, &mut bits, &mut kept);
     packed_word::pack_into(&bits, n, &mut hard);
-    let stop = soft_rounds::run(shape, list, index, limit, middle, &mut bits, &mut kept);
+    let stop = iterative_rounds::run(shape, list, index, limit, middle, &mut bits, &mut kept);
     packed_word::pack_into(&bits, n, word);
-    soft_levels::unbias(&kept, n, middle, levels);
+    iterative_levels::unbias(&kept, n, middle, levels);
     let changed = changed_bits(word, &hard, n);
     answers::ended(stop.rounds, stop.failing, changed)
 }

@@ -7,7 +7,7 @@
 --   round-keeps             == a right bit stays right
 --   nearing-next, nearing   == a round carries it on, so it holds after each
 --   nearing-there           == where k strides are more than L every bit is right
--- Levels are written as their numbers of `soft_levels`, from 0 to 2 * L with the middle L. Assumes nothing.
+-- Levels are written as their numbers of `iterative_levels`, from 0 to 2 * L with the middle L. Assumes nothing.
 use mathlib.Core.Path.{_≡_, sym, ap, _∙_}
 use Prim.Native.Nat.{ℕ, zero, suc, min, _+_, _-_, _*_, _≤_, _<_}
 use native.Mathlib.Nat.{suc-mul}
@@ -18,16 +18,16 @@ use Rattle.counting.specs.Sum.{differ}
 use Rattle.counting.specs.Integers.{cut, above}
 use Rattle.counting.proofs.Sums.{sum-le, differ-eq, differ-ne, differ-le}
 use Rattle.packed_word.specs.Packed.{distance}
-use Rattle.parity_check.specs.Code.{Matrix, weight, Word, Codeword}
-use Rattle.parity_check.specs.Reading.{Rows}
+use Rattle.matrix.specs.Code.{Matrix, weight, Word, Codeword}
+use Rattle.matrix.specs.Reading.{Rows}
 use Rattle.majority_logic.specs.Voting.{votes}
 use Rattle.majority_logic.proofs.Votes.{votes-kept, votes-changed}
-use Rattle.soft_levels.specs.Levels.{biased}
-use Rattle.soft_levels.proofs.Levels.{next-biased, above-bit}
-use Rattle.soft_rounds.specs.Rounds.{State, levelAfter, roundOf}
-use Rattle.soft_rounds.specs.Stages.{stateAt}
-use Rattle.soft_rounds.proofs.Extrinsic.{extrinsic-zero, extrinsic-one}
-use Rattle.soft_rounds.proofs.Ends.{round-bound}
+use Rattle.iterative_levels.specs.Levels.{biased}
+use Rattle.iterative_levels.proofs.Levels.{next-biased, above-bit}
+use Rattle.iterative_rounds.specs.Rounds.{State, levelAfter, roundOf}
+use Rattle.iterative_rounds.specs.Stages.{stateAt}
+use Rattle.iterative_rounds.proofs.Extrinsic.{extrinsic-zero, extrinsic-one}
+use Rattle.iterative_rounds.proofs.Ends.{round-bound}
 use Rattle.iterative_rule.specs.Claims.{stride}
 use Rattle.iterative_rule.proofs.Sides.{above-high, above-low, high-above, low-above}
 

@@ -15,13 +15,13 @@ use borrow.Author.Tests.{eq-eqb, ne-eqb}
 use lib.Dec.{eqb}
 use Rattle.packed_word.specs.Packed.{distance}
 use Rattle.packed_word.proofs.Distances.{distance-cong, distance-self, distance-agree}
-use Rattle.parity_check.specs.Code.{Matrix, weight, Word, failing, Codeword}
-use Rattle.parity_check.specs.Reading.{Rows}
-use Rattle.parity_check.proofs.Rows.{failing-cong}
+use Rattle.matrix.specs.Code.{Matrix, weight, Word, failing, Codeword}
+use Rattle.matrix.specs.Reading.{Rows}
+use Rattle.matrix.proofs.Rows.{failing-cong}
 use Rattle.majority_logic.proofs.Correction.{failing-unchanged, failing-changed}
-use Rattle.soft_rounds.specs.Rounds.{State, End, endOf}
-use Rattle.soft_rounds.specs.Stages.{stateAt}
-use Rattle.soft_rounds.proofs.Ends.{end-state, earlier-fails, fails-at-limit}
+use Rattle.iterative_rounds.specs.Rounds.{State, End, endOf}
+use Rattle.iterative_rounds.specs.Stages.{stateAt}
+use Rattle.iterative_rounds.proofs.Ends.{end-state, earlier-fails, fails-at-limit}
 use Rattle.iterative_rule.specs.Claims.{stride, roundsFor, EndsRight}
 use Rattle.iterative_rule.proofs.Approach.{Nearing, nearing-closer, nearing-there, nearing}
 

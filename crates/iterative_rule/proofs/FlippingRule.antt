@@ -19,13 +19,13 @@ use lib.ListN.{length, getD}
 use Rattle.answers.specs.Paper.{Said, report, written}
 use Rattle.packed_word.specs.Packed.{bitAt}
 use Rattle.packed_word.proofs.Distances.{distance-cong, distance-sym}
-use Rattle.parity_check.specs.Code.{Matrix, weight}
+use Rattle.matrix.specs.Code.{Matrix, weight}
 use Rattle.matrix.proofs.Weights.{weight-least}
-use Rattle.quantiser.specs.Samples.{Choice, largest, levelOf, hardBit}
-use Rattle.quantiser.proofs.Ranges.{fits-reads, largest-some, level-bound, hard-bit-at}
+use Rattle.quantiser_levels.specs.Samples.{Choice, largest, levelOf, hardBit}
+use Rattle.quantiser_settings.proofs.Ranges.{fits-reads, largest-some, level-bound, hard-bit-at}
 use Rattle.majority_logic.proofs.FlippingRule.{sent-codeword, pack-is}
-use Rattle.soft_levels.specs.Levels.{biased}
-use Rattle.soft_levels.proofs.Levels.{biased-le}
+use Rattle.iterative_levels.specs.Levels.{biased}
+use Rattle.iterative_levels.proofs.Levels.{biased-le}
 use Rattle.iterative_core.specs.Iterative.{startOf, changedBits, endFrom, reportAt, iterativeVerdict, iterativeOf, iterativeWord}
 use Rattle.iterative_core.specs.Calls.{Lent}
 use Rattle.iterative_core.proofs.Changes.{changed-all}

@@ -22,10 +22,10 @@ use lib.ListN.{length, getD}
 use Rattle.counting.specs.Lists.{over}
 use Rattle.answers.specs.Paper.{accepted, Said, report}
 use Rattle.packed_word.specs.Packed.{bitAt, distance}
-use Rattle.parity_check.specs.Code.{Matrix, failing}
-use Rattle.quantiser.specs.Samples.{Choice, largest, levelOf, hardBit}
+use Rattle.matrix.specs.Code.{Matrix, failing}
+use Rattle.quantiser_levels.specs.Samples.{Choice, largest, levelOf, hardBit}
 use Rattle.majority_logic.specs.Claims.{Sent}
-use Rattle.soft_rounds.specs.Rounds.{End}
+use Rattle.iterative_rounds.specs.Rounds.{End}
 use Rattle.iterative_core.specs.Iterative.{endFrom, iterativeVerdict}
 
 -- t: the number of wrong hard bits

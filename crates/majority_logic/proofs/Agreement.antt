@@ -4,9 +4,9 @@ use mathlib.Core.Bool.{cond}
 use Prim.Native.Nat.{ℕ, _*_, _<_}
 use lib.Dec.{ltb, eqb}
 use Rattle.counting.proofs.Sums.{sum-cong}
-use Rattle.parity_check.specs.Code.{Matrix, has, weight}
-use Rattle.parity_check.specs.Reading.{Rows}
-use Rattle.parity_check.proofs.Rows.{fails-cong, failing-cong}
+use Rattle.matrix.specs.Code.{Matrix, has, weight}
+use Rattle.matrix.specs.Reading.{Rows}
+use Rattle.matrix.proofs.Rows.{fails-cong, failing-cong}
 use Rattle.majority_logic.specs.Voting.{votes, flipWhen, flipped}
 use Rattle.majority_logic.specs.OneStep.{stepWord, stepRounds}
 

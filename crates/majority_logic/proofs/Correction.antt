@@ -21,9 +21,9 @@ use Rattle.counting.proofs.Searches.{cases}
 use Rattle.answers.specs.Paper.{report}
 use Rattle.packed_word.specs.Packed.{distance}
 use Rattle.packed_word.proofs.Distances.{distance-cong, distance-sym, distance-agree, distance-apart}
-use Rattle.parity_check.specs.Code.{Matrix, has, weight, Word, fails, failing, Codeword}
-use Rattle.parity_check.specs.Reading.{Rows, Accepted}
-use Rattle.parity_check.proofs.Rows.{has-le, clean-at, fails-bit, failing-cong}
+use Rattle.matrix.specs.Code.{Matrix, has, weight, Word, fails, failing, Codeword}
+use Rattle.matrix.specs.Reading.{Rows, Accepted}
+use Rattle.matrix.proofs.Rows.{has-le, clean-at, fails-bit, failing-cong}
 use Rattle.matrix.proofs.Weights.{weight-least, weight-small, weight-equal}
 use Rattle.majority_logic.specs.Voting.{votes, flipWhen, flipped}
 use Rattle.majority_logic.specs.OneStep.{stepWord, stepRounds, oneStepReport}

@@ -11,9 +11,9 @@ use Rattle.counting.specs.Sum.{sum, same, differ}
 use Rattle.counting.proofs.Sums.{sum-cong, sum-le, sum-add, sum-mul, sum-mul-right, sum-swap, sum-term, sum-one, sum-two, sum-pick}
 use Rattle.counting.proofs.Sums.{same-refl, same-ne, differ-eq, differ-ne}
 use Rattle.packed_word.specs.Packed.{distance}
-use Rattle.parity_check.specs.Code.{Matrix, entry, has, weight, common, Word, fails, Codeword}
-use Rattle.parity_check.specs.Reading.{Rows}
-use Rattle.parity_check.proofs.Rows.{has-le, row-sum, clean-at}
+use Rattle.matrix.specs.Code.{Matrix, entry, has, weight, common, Word, fails, Codeword}
+use Rattle.matrix.specs.Reading.{Rows}
+use Rattle.matrix.proofs.Rows.{has-le, row-sum, clean-at}
 use Rattle.matrix.proofs.Linear.{fails-differ}
 use Rattle.majority_logic.specs.Voting.{votes}
 

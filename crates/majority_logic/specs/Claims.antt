@@ -17,8 +17,8 @@ use lib.ListN.{length}
 use Rattle.counting.specs.Lists.{over}
 use Rattle.answers.specs.Paper.{accepted, Said, report}
 use Rattle.packed_word.specs.Packed.{bitAt, bytesFor, spareSet, Bytes, distance}
-use Rattle.parity_check.specs.Code.{Matrix, failing}
-use Rattle.parity_check.specs.Check.{checkOf}
+use Rattle.matrix.specs.Code.{Matrix, failing}
+use Rattle.matrix.specs.Check.{checkOf}
 
 -- "(n + 7) / 8 bytes .. The spare low places of the last byte are zero"
 pub record IsWord (n : ℕ) (w : List ℕ) : Type 0 where

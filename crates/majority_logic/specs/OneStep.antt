@@ -11,8 +11,8 @@ use mathlib.Core.List.{List}
 use lib.Dec.{eqb}
 use Rattle.answers.specs.Paper.{Verdict, andThen, Said, report, outcomeBy, after}
 use Rattle.packed_word.specs.Packed.{bitAt, pack, distance}
-use Rattle.parity_check.specs.Code.{Matrix, failing}
-use Rattle.parity_check.specs.Check.{checkOf}
+use Rattle.matrix.specs.Code.{Matrix, failing}
+use Rattle.matrix.specs.Check.{checkOf}
 use Rattle.syndrome.specs.Failing.{wordVerdict}
 use Rattle.majority_logic.specs.Voting.{flipped}
 

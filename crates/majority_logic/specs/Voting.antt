@@ -7,7 +7,7 @@ use Prim.Native.Nat.{ℕ, _*_, _-_}
 use mathlib.Core.Bool.{Bool, true, false}
 use lib.Dec.{ltb}
 use Rattle.counting.specs.Sum.{sum}
-use Rattle.parity_check.specs.Code.{Matrix, has, weight, fails}
+use Rattle.matrix.specs.Code.{Matrix, has, weight, fails}
 
 -- the failing checks that have column j
 unfoldable pub votes : Matrix → (ℕ → ℕ) → ℕ → ℕ

@@ -10,10 +10,10 @@ use mathlib.Core.List.{List}
 use Prim.Native.Nat.{ℕ}
 use lib.ListN.{length}
 use Rattle.answers.specs.Paper.{accepted, refused, Said, refusal}
-use Rattle.parity_check.specs.Code.{Matrix}
-use Rattle.parity_check.specs.Check.{checkOf}
-use Rattle.parity_check.specs.Reading.{Accepted}
-use Rattle.parity_check.proofs.Reading.{is-accepted}
+use Rattle.matrix.specs.Code.{Matrix}
+use Rattle.matrix.specs.Check.{checkOf}
+use Rattle.matrix.specs.Reading.{Accepted}
+use Rattle.matrix.proofs.Reading.{is-accepted}
 use Rattle.syndrome.specs.Failing.{wordVerdict}
 use Rattle.syndrome.proofs.Received.{word-fits}
 use Rattle.majority_logic.specs.OneStep.{oneStepVerdict, oneStepOf}

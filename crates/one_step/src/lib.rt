@@ -1,12 +1,12 @@
 // One-step majority-logic decoding of a received word: the whole call.
-// Rests on `one_step_core`, `syndrome` and `parity_check`. Document 01: "One-step voting"; refusals 1 to 5, 7 and 9.
+// Rests on `one_step_core`, `syndrome` and `matrix_check`. Document 01: "One-step voting"; refusals 1 to 5, 7 and 9.
 use answers::Answer;
 use answers::Checked;
+use matrix_check::Shape;
 pub use one_step_core::one_step_accepted;
-use parity_check::Shape;
 ghost use Rattle.answers.specs.Answers.{saidOf};
-ghost use Rattle.parity_check.specs.Reading.{Accepted};
-ghost use Rattle.parity_check.specs.Shapes.{matrixOf};
+ghost use Rattle.matrix.specs.Reading.{Accepted};
+ghost use Rattle.matrix.specs.Shapes.{matrixOf};
 ghost use Rattle.majority_logic.specs.Claims.{FlippingRule};
 ghost use Rattle.one_step_core.specs.Stepped.{Answered};
 
@@ -27,7 +27,7 @@ fn on_accepted(shape: Shape, list: &[u16], received: &[u8], word: &mut [u8]) -> 
 fn answered(shape: Shape, list: &[u16], received: &[u8], word: &mut [u8]) -> Answer
     ensures { λ r. ⌜ Answered (matrixOf shape (now (list .entry))) (now (received .entry)) (now (word .entry)) (now (word .exit)) (saidOf r) ⌝ }
 {
-    match parity_check::check(shape, list) {
+    match matrix_check::check(shape, list) {
         Checked::Accepted => on_accepted(shape, list, received, word),
         Checked::Refused(f) => Answer::Refused(f),
     }

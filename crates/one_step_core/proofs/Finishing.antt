@@ -12,8 +12,8 @@ use Rattle.packed_word.specs.Packed.{bitAt, bytesFor, pack, distance}
 use Rattle.packed_word.specs.Steps.{Unpacked}
 use Rattle.packed_word.proofs.Packing.{bit-bit, length-pack, bitAt-pack, spare-pack, pack-cong, spare-clear}
 use Rattle.packed_word.proofs.Distances.{distance-cong, distance-spare}
-use Rattle.parity_check.specs.Code.{Matrix, Word, failing}
-use Rattle.parity_check.proofs.Rows.{failing-cong}
+use Rattle.matrix.specs.Code.{Matrix, Word, failing}
+use Rattle.matrix.proofs.Rows.{failing-cong}
 use Rattle.majority_logic.specs.OneStep.{stepWord, stepRounds, oneStepReport, oneStepWord}
 use Rattle.majority_logic.proofs.Agreement.{stepWord-cong, stepRounds-cong}
 use Rattle.majority_logic.proofs.Correction.{stepWord-bit}

@@ -6,14 +6,14 @@ use native.Mathlib.Omega.{arith}
 use lib.Dec.{ltb}
 use borrow.Author.Tests.{eq-eqb, ne-eqb}
 use Rattle.counting.specs.Places.{at}
-use Rattle.parity_check.specs.Code.{Matrix, Word, failing}
-use Rattle.parity_check.specs.Reading.{Accepted}
-use Rattle.parity_check.proofs.Rows.{failing-cong}
+use Rattle.matrix.specs.Code.{Matrix, Word, failing}
+use Rattle.matrix.specs.Reading.{Accepted}
+use Rattle.matrix.proofs.Rows.{failing-cong}
 use Rattle.majority_logic.specs.Voting.{flipWhen}
 use Rattle.majority_logic.specs.OneStep.{stepWord, stepRounds}
 use Rattle.majority_logic.proofs.Correction.{flipped-by, stepWord-flipped, stepWord-bit}
-use Rattle.votes.specs.Tallies.{Tallied}
-use Rattle.flips.specs.Flips.{Voted}
+use Rattle.majority_votes.specs.Tallies.{Tallied}
+use Rattle.majority_flips.specs.Flips.{Voted}
 use Rattle.one_step_core.specs.Stepped.{Stepped}
 
 -- the rounds of a word with and without failing checks

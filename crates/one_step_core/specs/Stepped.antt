@@ -13,8 +13,8 @@ use Rattle.counting.specs.Lists.{over}
 use Rattle.counting.specs.Places.{at}
 use Rattle.answers.specs.Paper.{Said, written}
 use Rattle.packed_word.specs.Packed.{bitAt, bytesFor, spareSet}
-use Rattle.parity_check.specs.Code.{Matrix, failing}
-use Rattle.parity_check.specs.Reading.{Accepted}
+use Rattle.matrix.specs.Code.{Matrix, failing}
+use Rattle.matrix.specs.Reading.{Accepted}
 use Rattle.majority_logic.specs.OneStep.{stepWord, stepRounds, oneStepReport, oneStepVerdict, oneStepOf, oneStepWord}
 
 pub record Stepped (H : Matrix) (z : ℕ → ℕ) (bits : List ℕ) (rounds f : ℕ) : Type 0 where

@@ -1,13 +1,13 @@
 // One-step voting on a matrix and a received word that are known to be accepted.
-// Rests on `votes`, `flips`, `syndrome`, `packed_word` and `parity_check`. Document 01: "One-step voting".
+// Rests on `majority_votes`, `majority_flips`, `syndrome`, `packed_word` and `matrix_check`. Document 01: "One-step voting".
 use answers::Report;
-use parity_check::Shape;
-use votes::Stop;
+use majority_votes::Stop;
+use matrix_check::Shape;
 ghost use Rattle.answers.specs.Answers.{reportOf};
 ghost use Rattle.counting.specs.Places.{at};
-ghost use Rattle.parity_check.specs.Code.{Word};
-ghost use Rattle.parity_check.specs.Reading.{Accepted};
-ghost use Rattle.parity_check.specs.Shapes.{matrixOf};
+ghost use Rattle.matrix.specs.Code.{Word};
+ghost use Rattle.matrix.specs.Reading.{Accepted};
+ghost use Rattle.matrix.specs.Shapes.{matrixOf};
 ghost use Rattle.one_step_core.specs.Stepped.{Stepped, Lent, Voted};
 
 // One vote on an unpacked word: nothing moves where no check fails.
@@ -16,14 +16,14 @@ fn vote(shape: Shape, list: &[u16], bits: &mut [u8; 1023]) -> Stop
     ensures { λ r. ⌜ Stepped (matrixOf shape (now (list .entry))) (at (now (bits .entry))) (now (bits .exit)) (r .rounds) (r .failing) ⌝ }
 {
     let mut votes = [0u8; 1023];
-    let before = votes::tally(shape, list, bits, &mut votes);
+    let before = majority_votes::tally(shape, list, bits, &mut votes);
     if before == 0 {
         return Stop {
             rounds: 0,
             failing: 0,
         };
     }
-    flips::flip_all(shape, &votes, bits);
+    majority_flips::flip_all(shape, &votes, bits);
     let after = syndrome::failing_count(shape, list, bits);
     Stop {
         rounds: 1,

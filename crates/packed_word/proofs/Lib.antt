@@ -1,6 +1,6 @@
-pub use Rattle.packed_bits.proofs.Digits
-pub use Rattle.packed_bits.proofs.Masks
-pub use Rattle.packed_bits.proofs.Packing
-pub use Rattle.packed_bits.proofs.Distances
-pub use Rattle.packed_bits.proofs.Storing
-pub use Rattle.packed_bits.proofs.Counts
+pub mod Digits
+pub mod Masks
+pub mod Packing
+pub mod Distances
+pub mod Storing
+pub mod Counts

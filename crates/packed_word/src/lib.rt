@@ -1,18 +1,57 @@
-// Packed words as a whole: unpacked, packed, and compared. Passes on the bits of packed words.
-// Rests on `packed_bits`. Document 01: "The code and the block".
-pub use packed_bits::flip_bit;
-pub use packed_bits::get_bit;
-pub use packed_bits::set_bit;
-pub use packed_bits::spare_set;
+// Packed words: eight bits to a byte, bit 0 in the highest place of byte 0. One bit read, set and turned over, and the spare places; words
+// unpacked, packed, and compared.
+// Rests on `counting`. Document 01: "The code and the block"; the named form "by shift and mask".
 ghost use mathlib.Core.Path.{_≡_};
-ghost use Prim.Native.Nat.{ℕ, _+_, _*_, _<_, _≤_};
+ghost use Prim.Native.Nat.{ℕ, _+_, _*_, _/_, _<_, _≤_};
 ghost use lib.Dec.{ltb};
 ghost use lib.ListN.{length};
 ghost use Rattle.counting.specs.Sum.{flag};
 ghost use Rattle.counting.specs.Lists.{over};
 ghost use Rattle.counting.specs.Places.{at};
-ghost use Rattle.packed_bits.specs.Packed.{bitAt, bytesFor, packedByte, pack, distance};
-ghost use Rattle.packed_bits.specs.Steps.{Unpacked, apart};
+ghost use Rattle.packed_word.specs.Packed.{bitAt, bytesFor, packedByte, pack, distance, spareSet};
+ghost use Rattle.packed_word.specs.Steps.{Unpacked, apart, SetBit, FlipBit};
+
+// Bit j of a packed word. Only this repository's crates call it, with a bit that the word has.
+pub fn get_bit(w: &[u8], j: usize) -> u8
+    requires { ⌜ j / 8 < length (now w) ⌝ }
+    ensures { λ r. ⌜ r ≡ bitAt (now (w .entry)) j ⌝ }
+{
+    (w[j / 8] >> (7 - j % 8)) & 1
+}
+
+// Sets bit j of a packed word, and changes no other. Only this repository's crates call it, with a bit that the word has.
+pub fn set_bit(w: &mut [u8], j: usize)
+    requires { ⌜ j / 8 < length (now w) ⌝ }
+    ensures { λ _. ⌜ SetBit (now (w .entry)) (now (w .exit)) j ⌝ }
+{
+    w[j / 8] = w[j / 8] | (1 << (7 - j % 8));
+}
+
+// Turns bit j of a packed word over, and changes no other. Only this repository's crates call it, with a bit that the word has.
+pub fn flip_bit(w: &mut [u8], j: usize)
+    requires { ⌜ j / 8 < length (now w) ⌝ }
+    ensures { λ _. ⌜ FlipBit (now (w .entry)) (now (w .exit)) j ⌝ }
+{
+    w[j / 8] = w[j / 8] ^ (1 << (7 - j % 8));
+}
+
+// Whether a place of the last byte that holds no bit of the word is set. There are at most seven such places,
+// of which `left` are still to be tested.
+// Only this repository's crates call it, with the bytes of n bits.
+pub fn spare_set(w: &[u8], n: usize) -> bool
+    requires { ⌜ (length (now w) ≡ bytesFor n) × (n ≤ 1023) ⌝ }
+    ensures { λ r. ⌜ r ≡ spareSet n (now (w .entry)) ⌝ }
+{
+    let end = 8 * w.len();
+    let mut left = end - n;
+    while left > 0 {
+        if get_bit(w, end - left) == 1 {
+            return true;
+        }
+        left -= 1;
+    }
+    false
+}
 
 // Writes the n bits of a word into the first n cells, one to a cell.
 fn unpack_cells(w: &[u8], n: usize, cells: &mut [u8])

@@ -13,10 +13,10 @@ use lib.Seq.{getD-set-same, getD-set-other}
 use Rattle.counting.specs.Lists.{listed, over}
 use Rattle.counting.specs.Places.{at}
 use Rattle.counting.proofs.Writing.{listed-cong, over-none, over-more}
-use Rattle.sample_levels.specs.Samples.{Choice, magnitude, levelOf, levelsOf, hardBit}
-use Rattle.sample_levels.specs.Scaling.{levelBy, levelAt, Scaled}
+use Rattle.quantiser_levels.specs.Samples.{Choice, magnitude, levelOf, levelsOf, hardBit}
+use Rattle.quantiser_levels.specs.Scaling.{levelBy, levelAt, Scaled}
 use Rattle.quantiser.specs.Filling.{Stored, Filled}
-use Rattle.settings.proofs.Ranges.{hard-bit-at}
+use Rattle.quantiser_settings.proofs.Ranges.{hard-bit-at}
 
 module _ {f : ℕ → ℤ} {b : ℕ → ℕ} {ls : List ℤ} {bs : List ℕ} where
   pub stored-none : Stored f b 0 ls ls bs bs

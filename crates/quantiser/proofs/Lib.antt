@@ -1,3 +1,2 @@
-pub use Rattle.settings.proofs.Ranges
 pub mod Filling
 pub mod Verdicts

@@ -19,10 +19,10 @@ use Rattle.answers.specs.Paper.{Verdict, accepted, refused, written}
 use Rattle.answers.proofs.Verdicts.{not-accepted}
 use Rattle.packed_word.specs.Packed.{bytesFor, pack}
 use Rattle.packed_word.proofs.Packing.{pack-cong}
-use Rattle.sample_levels.specs.Samples.{Choice, settingFits, levelsOf, hardBit, hardWord, notFinite, firstNotFinite, quantiseVerdict}
+use Rattle.quantiser_levels.specs.Samples.{Choice, settingFits, levelsOf, hardBit, hardWord, notFinite, firstNotFinite, quantiseVerdict}
 use Rattle.quantiser.specs.Reading.{Acceptable}
 use Rattle.quantiser.specs.Filling.{tooShort, Filled, Quantised}
-use Rattle.settings.proofs.Ranges.{fits-reads, reads-fits, all-finite}
+use Rattle.quantiser_settings.proofs.Ranges.{fits-reads, reads-fits, all-finite}
 
 -- ---- the verdict
 

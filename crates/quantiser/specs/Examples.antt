@@ -11,8 +11,8 @@ use mathlib.Core.Path.{_≡_, refl}
 use mathlib.Core.List.{List, [], _∷_}
 use lib.IntN.{ℤ, pos, negsuc}
 use lib.Ieee.{binary32, ofBits, ofFields, odd, lt}
-use Rattle.sample_levels.specs.Samples.{nearest, magnitude, levelOf, hardOf}
-use Rattle.settings.specs.Examples.{choice}
+use Rattle.quantiser_levels.specs.Samples.{nearest, magnitude, levelOf, hardOf}
+use Rattle.quantiser_settings.specs.Examples.{choice}
 
 pub record Given : Type 0 where
   pub bits : ℕ

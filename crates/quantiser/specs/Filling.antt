@@ -19,9 +19,9 @@ use Rattle.counting.specs.Lists.{listed, over}
 use Rattle.counting.specs.Places.{at}
 use Rattle.answers.specs.Paper.{Verdict, written}
 use Rattle.packed_word.specs.Packed.{bytesFor}
-use Rattle.sample_levels.specs.Samples.{Choice, settingFits, levelsOf, hardBit, hardWord, firstNotFinite, quantiseVerdict}
-use Rattle.sample_levels.specs.Scaling.{levelAt}
-use Rattle.sample_levels.specs.declared.Scale.{Scale}
+use Rattle.quantiser_levels.specs.Samples.{Choice, settingFits, levelsOf, hardBit, hardWord, firstNotFinite, quantiseVerdict}
+use Rattle.quantiser_levels.specs.Scaling.{levelAt}
+use Rattle.quantiser_levels.specs.declared.Scale.{Scale}
 
 -- "For the quantiser alone: more than 1,023 samples or a shorter output"
 abbrev pub tooShort : ℕ → ℕ → ℕ → Bool

@@ -8,8 +8,8 @@ use lib.Ieee.{Float, nan}
 use lib.Ieee.Scale.{finite}
 use lib.ListN.{length, getD}
 use Rattle.packed_word.specs.Packed.{bytesFor}
-use Rattle.sample_levels.specs.Samples.{Choice}
-use Rattle.settings.specs.Ranges.{InRange}
+use Rattle.quantiser_levels.specs.Samples.{Choice}
+use Rattle.quantiser_settings.specs.Ranges.{InRange}
 
 pub record Acceptable (S : Choice) (xs : List Float) (l b : ℕ) : Type 0 where
   pub setting : InRange S

@@ -1,22 +1,22 @@
 // Samples to levels and hard bits, exactly: all samples of a block. The setting is passed on.
-// Rests on `settings`, `sample_levels`, `packed_word` and `answers`. Document 01: "Samples and levels"; refusals 6, 7 and 8.
+// Rests on `quantiser_settings`, `quantiser_levels`, `packed_word` and `answers`. Document 01: "Samples and levels"; refusals 6, 7 and 8.
 use answers::Checked;
 use answers::Refusal;
-use sample_levels::Cell;
-use sample_levels::Scale;
-use sample_levels::hard_bit;
-use sample_levels::is_finite;
-use sample_levels::level_by;
-pub use settings::MOST_BITS;
-pub use settings::Setting;
-pub use settings::Step;
-use settings::scale_of;
-pub use settings::setting_fits;
+use quantiser_levels::Cell;
+use quantiser_levels::Scale;
+use quantiser_levels::hard_bit;
+use quantiser_levels::is_finite;
+use quantiser_levels::level_by;
+pub use quantiser_settings::MOST_BITS;
+pub use quantiser_settings::Setting;
+pub use quantiser_settings::Step;
+use quantiser_settings::scale_of;
+pub use quantiser_settings::setting_fits;
 ghost use mathlib.Core.Path.{_≡_};
 ghost use Rattle.answers.specs.Answers.{verdictOf};
-ghost use Rattle.sample_levels.specs.Samples.{firstNotFinite};
-ghost use Rattle.sample_levels.specs.Scaling.{Narrow};
-ghost use Rattle.settings.specs.Settings.{choiceOf};
+ghost use Rattle.quantiser_levels.specs.Samples.{firstNotFinite};
+ghost use Rattle.quantiser_levels.specs.Scaling.{Narrow};
+ghost use Rattle.quantiser_settings.specs.Settings.{choiceOf};
 ghost use Rattle.quantiser.specs.Filling.{tooShort, Roomy, FilledBy, Fillable, Filled, Quantised};
 
 // The place of the first sample that is not finite, or how many samples there are.

@@ -9,19 +9,19 @@ use lib.Ieee.{Float}
 use Rattle.counting.proofs.Searches.{cases}
 use Rattle.answers.specs.Paper.{accepted}
 use Rattle.packed_word.specs.Packed.{bitAt}
-use Rattle.parity_check.specs.Code.{Matrix, failing}
-use Rattle.parity_check.specs.Reading.{Rows}
-use Rattle.parity_check.proofs.Rows.{failing-cong}
-use Rattle.quantiser.specs.Samples.{Choice, largest}
-use Rattle.iterative.specs.Rounds.{State}
-use Rattle.iterative.specs.Iterative.{startOf}
+use Rattle.matrix.specs.Code.{Matrix, failing}
+use Rattle.matrix.specs.Reading.{Rows}
+use Rattle.matrix.proofs.Rows.{failing-cong}
+use Rattle.quantiser_levels.specs.Samples.{Choice, largest}
+use Rattle.iterative_rounds.specs.Rounds.{State}
+use Rattle.iterative_core.specs.Iterative.{startOf}
 use Rattle.session_record.specs.Record.{Course, Record, working, decoded, failed, courseIn, stateAfter}
 use Rattle.session_asking.specs.Asked.{Held, lent, openVerdict, stepVerdict}
 use Rattle.session_asking.specs.Reading.{Steppable}
-use Rattle.session_steps.specs.Steps.{courseFor, heldAt, openedLeft, openOf, stateIn, steppedState, steppedLeft, stepOf}
+use Rattle.session.specs.Steps.{courseFor, heldAt, openedLeft, openOf, stateIn, steppedState, steppedLeft, stepOf}
 use Rattle.session.specs.Stepping.{Means, Ran, opened, stepped, step-refused, open-refused, Within}
 use Rattle.session_asking.proofs.Asking.{accepted-open, accepted-step}
-use Rattle.session_steps.proofs.Leaving.{refused-open-keeps, refused-step-keeps, accepted-opens, accepted-steps, start-bits, round-bits}
+use Rattle.session.proofs.Leaving.{refused-open-keeps, refused-step-keeps, accepted-opens, accepted-steps, start-bits, round-bits}
 use Rattle.session.proofs.Buffers.{bits-back}
 
 -- ---- what the state says

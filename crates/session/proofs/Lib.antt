@@ -1,4 +1,5 @@
-pub use Rattle.session_steps.proofs.Leaving
+pub mod Leaving
+pub mod Answering
 pub mod Buffers
 pub mod Calls
 pub mod Stepping

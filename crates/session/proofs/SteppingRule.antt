@@ -5,8 +5,8 @@ use Prim.Native.Nat.{ℕ}
 use native.Mathlib.Omega.{arith}
 use lib.Ieee.{Float}
 use Rattle.answers.specs.Paper.{report}
-use Rattle.parity_check.specs.Code.{Matrix}
-use Rattle.quantiser.specs.Samples.{Choice}
+use Rattle.matrix.specs.Code.{Matrix}
+use Rattle.quantiser_levels.specs.Samples.{Choice}
 use Rattle.iterative_rule.specs.Claims.{wrongBits}
 use Rattle.iterative_rule.proofs.FlippingRule.{iterative-rule}
 use Rattle.session_asking.specs.Asked.{Held, openVerdict}

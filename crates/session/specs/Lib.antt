@@ -1,5 +1,5 @@
--- What the theorems of `session` cite, and the contracts of the calls that it passes on.
-pub use Rattle.session_steps.specs.Steps
-pub use Rattle.session_steps.specs.Leaving
+-- What the contracts of `session_opening`, `session_round` and the crates above them cite, and the theorems on stepping.
+pub mod Steps
+pub mod Leaving
 pub mod Stepping
 pub mod SteppingRule

@@ -13,12 +13,12 @@ use lib.IntN.{ℤ}
 use lib.Ieee.{Float}
 use lib.ListN.{length}
 use Rattle.answers.specs.Paper.{accepted, refused, written}
-use Rattle.parity_check.specs.Code.{Matrix, failing}
-use Rattle.quantiser.specs.Samples.{Choice, hardWord}
-use Rattle.iterative.specs.Iterative.{iterativeOf, iterativeWord, iterativeLevels}
+use Rattle.matrix.specs.Code.{Matrix, failing}
+use Rattle.quantiser_levels.specs.Samples.{Choice, hardWord}
+use Rattle.iterative_core.specs.Iterative.{iterativeOf, iterativeWord, iterativeLevels}
 use Rattle.session_record.specs.Record.{Record, working, decoded, failed}
 use Rattle.session_asking.specs.Asked.{Held, lent, openVerdict, stepVerdict}
-use Rattle.session_steps.specs.Steps.{Left, openOf, stepOf}
+use Rattle.session.specs.Steps.{Left, openOf, stepOf}
 
 -- t steps after a call, each lent the received word w and what the last call left
 unfoldable pub stepsOf : Matrix → List ℕ → ℕ → Left → Left

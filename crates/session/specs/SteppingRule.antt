@@ -8,11 +8,11 @@ use mathlib.Core.List.{List}
 use lib.Ieee.{Float}
 use Rattle.counting.specs.Lists.{over}
 use Rattle.answers.specs.Paper.{accepted, report}
-use Rattle.parity_check.specs.Code.{Matrix}
-use Rattle.quantiser.specs.Samples.{Choice, largest, hardWord}
+use Rattle.matrix.specs.Code.{Matrix}
+use Rattle.quantiser_levels.specs.Samples.{Choice, largest, hardWord}
 use Rattle.iterative_rule.specs.Claims.{wrongBits, roundsFor, SamplesWithinHalf}
 use Rattle.session_asking.specs.Asked.{Held, openVerdict, stepVerdict}
-use Rattle.session_steps.specs.Steps.{openOf}
+use Rattle.session.specs.Steps.{openOf}
 use Rattle.session.specs.Stepping.{stepsOf}
 
 -- so many accepted steps after the opening, none where no bit is wrong: decoded, rounds the steps, failing 0, changed the number of

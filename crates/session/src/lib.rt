@@ -1,8 +1,3 @@
-// Iterative voting in single rounds: passes on a session's calls, and states what is proved of stepping (specs/, proofs/).
-// Rests on `record_open`, `record_step`, `session_opening`, `session_rounds` and `session_steps`; it has no code of its own. Document 01: "Rounds one at a time".
-pub use record_open::open;
-pub use record_open::open_copy;
-pub use record_step::step;
-pub use record_step::step_copy;
-pub use session_opening::open_value;
-pub use session_rounds::step_value;
+// Iterative voting in single rounds: what opening a session and one step of it say and leave, and what is proved of stepping (specs/, proofs/).
+// Rests on `session_asking`, `session_record`, `iterative_core`, `iterative_rule`, `iterative_levels` and `quantiser`; it has no code.
+// Document 01: "Rounds one at a time".

@@ -15,15 +15,13 @@ use Rattle.counting.proofs.Searches.{never, and-left, and-right, or-left, or-ri
 use Rattle.answers.specs.Paper.{Verdict, accepted, refuseWhen, andThen}
 use Rattle.answers.proofs.Verdicts.{passed, passed-on, fit-lengths}
 use Rattle.packed_word.specs.Packed.{bytesFor, spareSet}
-use Rattle.parity_check.specs.Code.{Matrix}
-use Rattle.parity_check.specs.Check.{checkOf}
-use Rattle.parity_check.specs.Reading.{Accepted}
-use Rattle.parity_check.proofs.Reading.{accepted-is, is-accepted}
+use Rattle.matrix.specs.Code.{Matrix}
+use Rattle.matrix.specs.Check.{checkOf}
+use Rattle.matrix.specs.Reading.{Accepted}
+use Rattle.matrix.proofs.Reading.{accepted-is, is-accepted}
 use Rattle.syndrome.proofs.Received.{word-fits, fits-word}
-use Rattle.sample_levels.specs.Samples.{rangesFit}
-use Rattle.settings.proofs.Ranges.{ranges-read, read-ranges}
-use Rattle.quantiser.specs.Samples.{Choice, largest, notFinite, firstNotFinite}
-use Rattle.quantiser.proofs.Ranges.{fits-reads, reads-fits, all-finite}
+use Rattle.quantiser_levels.specs.Samples.{Choice, largest, notFinite, firstNotFinite, rangesFit}
+use Rattle.quantiser_settings.proofs.Ranges.{fits-reads, reads-fits, all-finite, ranges-read, read-ranges}
 use Rattle.iterative_core.specs.Iterative.{samplesVerdict, iterativeVerdict}
 use Rattle.iterative_core.proofs.Loans.{verdict-lent}
 use Rattle.session_record.specs.Record.{Record, working, decoded, failed}

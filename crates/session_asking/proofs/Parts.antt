@@ -16,10 +16,10 @@ use lib.Seq.{getD-take}
 use Rattle.counting.proofs.Searches.{any-cong}
 use Rattle.answers.specs.Paper.{Verdict, accepted, refused, refuseWhen, andThen}
 use Rattle.packed_word.specs.Packed.{bitAt, bytesFor, spareSet}
-use Rattle.parity_check.specs.Code.{Matrix}
-use Rattle.parity_check.specs.Check.{checkOf}
+use Rattle.matrix.specs.Code.{Matrix}
+use Rattle.matrix.specs.Check.{checkOf}
 use Rattle.syndrome.specs.Failing.{wordVerdict}
-use Rattle.quantiser.specs.Samples.{Choice}
+use Rattle.quantiser_levels.specs.Samples.{Choice}
 use Rattle.iterative_core.specs.Iterative.{samplesVerdict, iterativeVerdict}
 use Rattle.session_asking.specs.Asked.{Held, unusable, ended, otherSizes, beyond, stepVerdict}
 use Rattle.session_asking.specs.Parts.{knownVerdict, lentVerdict}

@@ -16,11 +16,10 @@ use lib.ListN.{length, getD}
 use Rattle.counting.specs.Search.{any}
 use Rattle.answers.specs.Paper.{Verdict, accepted, refuseWhen, andThen}
 use Rattle.packed_word.specs.Packed.{spareSet}
-use Rattle.parity_check.specs.Code.{Matrix}
-use Rattle.parity_check.specs.Check.{checkOf}
+use Rattle.matrix.specs.Code.{Matrix}
+use Rattle.matrix.specs.Check.{checkOf}
 use Rattle.syndrome.specs.Failing.{wordVerdict}
-use Rattle.sample_levels.specs.Samples.{rangesFit}
-use Rattle.quantiser.specs.Samples.{Choice, largest}
+use Rattle.quantiser_levels.specs.Samples.{Choice, largest, rangesFit}
 use Rattle.iterative_core.specs.Iterative.{iterativeVerdict}
 use Rattle.session_record.specs.Record.{Record, working, decoded, failed}
 

@@ -14,9 +14,9 @@ use lib.ListN.{length, getD}
 use Rattle.counting.specs.Search.{any}
 use Rattle.answers.specs.Paper.{Verdict, accepted, refuseWhen, andThen}
 use Rattle.packed_word.specs.Packed.{spareSet}
-use Rattle.parity_check.specs.Code.{Matrix}
-use Rattle.parity_check.specs.Check.{checkOf}
-use Rattle.sample_levels.specs.Samples.{rangesFit}
+use Rattle.matrix.specs.Code.{Matrix}
+use Rattle.matrix.specs.Check.{checkOf}
+use Rattle.quantiser_levels.specs.Samples.{rangesFit}
 use Rattle.syndrome.specs.Failing.{wordVerdict}
 use Rattle.session_record.specs.Record.{Record}
 use Rattle.session_record.specs.Sessions.{recordOf}

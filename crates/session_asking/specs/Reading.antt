@@ -13,10 +13,10 @@ use lib.Ieee.{Float, nan}
 use lib.Ieee.Scale.{finite}
 use lib.ListN.{length, getD}
 use Rattle.packed_word.specs.Packed.{bytesFor, spareSet}
-use Rattle.parity_check.specs.Code.{Matrix}
-use Rattle.parity_check.specs.Reading.{Accepted}
-use Rattle.quantiser.specs.Samples.{Choice, mostBits, largest}
-use Rattle.quantiser.specs.Ranges.{InRange}
+use Rattle.matrix.specs.Code.{Matrix}
+use Rattle.matrix.specs.Reading.{Accepted}
+use Rattle.quantiser_levels.specs.Samples.{Choice, mostBits, largest}
+use Rattle.quantiser_settings.specs.Ranges.{InRange}
 use Rattle.session_record.specs.Record.{Record, working}
 use Rattle.session_asking.specs.Asked.{Held}
 

@@ -1,10 +1,10 @@
 // What opening a session and a step of it ask (specs/), and the questions of a step in their order.
-// Rests on `session_record`, `sample_levels`, `settings`, `syndrome`, `packed_word` and `parity_check`. Document 01: "Refused for the session"; refusals 1 to 9.
+// Rests on `session_record`, `quantiser_levels`, `quantiser_settings`, `syndrome`, `packed_word` and `matrix_check`. Document 01: "Refused for the session"; refusals 1 to 9.
 use answers::Checked;
 use answers::Refusal;
 use answers::and_then;
 use answers::refused_when;
-use parity_check::Shape;
+use matrix_check::Shape;
 use session_record::Session;
 use session_record::State;
 ghost use mathlib.Core.Path.{_≡_};
@@ -15,8 +15,8 @@ ghost use lib.ListN.{length};
 ghost use Rattle.counting.specs.Search.{any};
 ghost use Rattle.answers.specs.Answers.{verdictOf};
 ghost use Rattle.packed_word.specs.Packed.{bytesFor};
-ghost use Rattle.parity_check.specs.Reading.{Accepted};
-ghost use Rattle.parity_check.specs.Shapes.{matrixOf};
+ghost use Rattle.matrix.specs.Reading.{Accepted};
+ghost use Rattle.matrix.specs.Shapes.{matrixOf};
 ghost use Rattle.session_record.specs.Sessions.{recordOf};
 ghost use Rattle.session_asking.specs.Asked.{unusable, ended, otherSizes, stepVerdict};
 ghost use Rattle.session_asking.specs.Reading.{Usable};
@@ -26,7 +26,7 @@ ghost use Rattle.session_asking.specs.Parts.{heldOf, outOfRange, far, be
 fn out_of_range(bits: u16, limit: u16, k: u16) -> bool
     ensures { λ r. ⌜ r ≡ outOfRange bits limit k ⌝ }
 {
-    if !settings::ranges_fit(bits, limit) {
+    if !quantiser_settings::ranges_fit(bits, limit) {
         return true;
     }
     limit <= k
@@ -123,7 +123,7 @@ fn ask_known(session: Session, shape: Shape, list: &[u16]) -> Checked
 {
     let unusable = refused_when(is_unusable(session), Refusal::Record);
     let ended = refused_when(is_ended(session), Refusal::Ended);
-    let matrix = parity_check::check(shape, list);
+    let matrix = matrix_check::check(shape, list);
     let sizes = refused_when(sizes_differ(shape, session), Refusal::OtherSizes);
     and_then(and_then(unusable, ended), and_then(matrix, sizes))
 }
@@ -141,7 +141,7 @@ fn ask_lent(
     ensures { λ r. ⌜ verdictOf r ≡ lentVerdict (matrixOf shape (now (list .entry))) (now (received .entry)) (heldOf session (now (word .entry)) (now (levels .entry))) ⌝ }
 {
     let n = shape.n as usize;
-    let middle = sample_levels::largest_of(session.bits);
+    let middle = quantiser_levels::largest_of(session.bits);
     let asked = syndrome::ask_word(n, received, word.len(), levels.len());
     match asked {
         Checked::Accepted => refused_when(is_beyond(n, middle, word, levels), Refusal::Beyond),

@@ -1,21 +1,21 @@
 // Opening a session, by value: what it asks, and the record in and out.
-// Rests on `session_steps`, `session_asking`, `session_record`, `iterative_core`, `quantiser`, `packed_word`, `syndrome` and `parity_check`. Document 01: "Rounds one at a time"; refusals 1 to 8.
+// Rests on `session`, `session_asking`, `session_record`, `iterative_core`, `quantiser`, `packed_word`, `syndrome` and `matrix_check`. Document 01: "Rounds one at a time"; refusals 1 to 8.
 use answers::Checked;
-use parity_check::Shape;
+use matrix_check::Shape;
 use quantiser::Setting;
 use session_record::Course;
 use session_record::Session;
 use session_record::Turn;
 ghost use mathlib.Core.Path.{_≡_};
 ghost use Rattle.answers.specs.Answers.{verdictOf};
-ghost use Rattle.parity_check.specs.Shapes.{matrixOf};
-ghost use Rattle.quantiser.specs.Settings.{choiceOf};
+ghost use Rattle.matrix.specs.Shapes.{matrixOf};
+ghost use Rattle.quantiser_settings.specs.Settings.{choiceOf};
 ghost use Rattle.iterative_core.specs.Iterative.{iterativeVerdict};
 ghost use Rattle.session_asking.specs.Asked.{lent};
 ghost use Rattle.session_asking.specs.Reading.{Openable};
 ghost use Rattle.session_asking.specs.Parts.{heldOf};
-ghost use Rattle.session_steps.specs.Steps.{openedLeft, openOf};
-ghost use Rattle.session_steps.specs.Leaving.{blank, Leaves};
+ghost use Rattle.session.specs.Steps.{openedLeft, openOf};
+ghost use Rattle.session.specs.Leaving.{blank, Leaves};
 
 // What opening asks, in its order: 1 to 8.
 fn ask_open(
@@ -29,7 +29,7 @@ fn ask_open(
     ensures { λ r. ⌜ verdictOf r ≡ iterativeVerdict (matrixOf shape (now (list .entry))) (choiceOf setting) (now (samples .entry)) bytes room ⌝ }
 {
     let n = shape.n as usize;
-    let asked = parity_check::check(shape, list);
+    let asked = matrix_check::check(shape, list);
     match asked {
         Checked::Accepted => iterative_core::ask_samples(n, setting, samples, bytes, room),
         Checked::Refused(f) => Checked::Refused(f),

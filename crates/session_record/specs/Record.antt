@@ -10,7 +10,7 @@
 use Prim.Native.Nat.{ℕ}
 use mathlib.Core.Bool.{cond}
 use lib.Dec.{eqb}
-use Rattle.parity_check.specs.Code.{Matrix}
+use Rattle.matrix.specs.Code.{Matrix}
 
 -- "A session record is empty, working, decoded or failed"
 abbrev pub empty : ℕ

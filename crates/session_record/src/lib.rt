@@ -1,15 +1,15 @@
 // The caller's record of a session, and what a round or a refusal leaves in it.
-// Rests on `answers` and `parity_check`. Document 01: "Rounds one at a time".
+// Rests on `answers` and `matrix_check`. Document 01: "Rounds one at a time".
 use answers::Answer;
 use answers::Outcome;
 use answers::Refusal;
 use answers::Report;
-use parity_check::Shape;
+use matrix_check::Shape;
 ghost use mathlib.Core.Path.{_≡_};
 ghost use mathlib.Core.List.{[]};
 ghost use Rattle.answers.specs.Paper.{refusal, report};
 ghost use Rattle.answers.specs.Answers.{numberOf, placeOf, outcomeOf, saidOf};
-ghost use Rattle.parity_check.specs.Shapes.{matrixOf};
+ghost use Rattle.matrix.specs.Shapes.{matrixOf};
 ghost use Rattle.session_record.specs.Record.{recordFor, stateAfter, outcomeIn};
 ghost use Rattle.session_record.specs.Sessions.{stateNumber, knownState, courseOf, recordOf};
 

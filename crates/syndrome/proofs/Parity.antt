@@ -9,9 +9,9 @@ use lib.Bits.{bitXor}
 use Rattle.counting.specs.Sum.{sum}
 use Rattle.counting.specs.Places.{at}
 use Rattle.counting.proofs.Sums.{sum-bound}
-use Rattle.parity_check.specs.Code.{Matrix, entry, Word, fails}
-use Rattle.parity_check.specs.Reading.{Accepted}
-use Rattle.parity_check.proofs.Rows.{few-entries}
+use Rattle.matrix.specs.Code.{Matrix, entry, Word, fails}
+use Rattle.matrix.specs.Reading.{Accepted}
+use Rattle.matrix.proofs.Rows.{few-entries}
 use Rattle.syndrome.specs.Places.{Part, ones, Checks, rowFails}
 
 -- of bits, `^` is the sum's parity

@@ -6,9 +6,9 @@ use native.Mathlib.Omega.{arith}
 use Rattle.packed_word.specs.Packed.{bitAt}
 use Rattle.counting.specs.Places.{at}
 use Rattle.packed_word.specs.Steps.{Unpacked}
-use Rattle.parity_check.specs.Code.{Matrix, Word, failing}
-use Rattle.parity_check.specs.Reading.{Rows}
-use Rattle.parity_check.proofs.Rows.{failing-cong}
+use Rattle.matrix.specs.Code.{Matrix, Word, failing}
+use Rattle.matrix.specs.Reading.{Rows}
+use Rattle.matrix.proofs.Rows.{failing-cong}
 
 module _ (H : Matrix) (w old new : List ℕ) (u : Unpacked (H .n) w old new) where
   pub unpacked-word : Word H (at new)

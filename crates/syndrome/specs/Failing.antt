@@ -8,8 +8,8 @@ use mathlib.Core.List.{List}
 use lib.ListN.{length}
 use Rattle.answers.specs.Paper.{Verdict, accepted, refuseWhen, andThen, wrongLengths, Said, report, after}
 use Rattle.packed_word.specs.Packed.{bitAt, bytesFor, spareSet}
-use Rattle.parity_check.specs.Code.{Matrix, failing}
-use Rattle.parity_check.specs.Check.{checkOf}
+use Rattle.matrix.specs.Code.{Matrix, failing}
+use Rattle.matrix.specs.Check.{checkOf}
 
 -- refusals 7 and 9: "a received word not exactly its bytes, or a written buffer shorter than needed", then "a spare place set".
 -- A word's buffer has `bytes` bytes and a levels' buffer room for `room`; one that the call does not write has just what would be needed.

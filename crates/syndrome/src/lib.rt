@@ -1,16 +1,16 @@
 // The syndrome of a word: which parity checks fail, and how many; and what every call asks of a received word.
-// Rests on `parity_check` and `packed_word`. Document 01: "The code and the block"; refusals 7 and 9.
+// Rests on `matrix_check` and `packed_word`. Document 01: "The code and the block"; refusals 7 and 9.
 use answers::Checked;
 use answers::Refusal;
-use parity_check::Shape;
+use matrix_check::Shape;
 ghost use mathlib.Core.Path.{_≡_};
 ghost use Prim.Native.Nat.{_%_, _≤_};
 ghost use lib.ListN.{length};
 ghost use Rattle.answers.specs.Answers.{verdictOf};
 ghost use Rattle.counting.specs.Places.{at};
-ghost use Rattle.parity_check.specs.Code.{Word, fails, failing};
-ghost use Rattle.parity_check.specs.Reading.{Accepted};
-ghost use Rattle.parity_check.specs.Shapes.{matrixOf};
+ghost use Rattle.matrix.specs.Code.{Word, fails, failing};
+ghost use Rattle.matrix.specs.Reading.{Accepted};
+ghost use Rattle.matrix.specs.Shapes.{matrixOf};
 ghost use Rattle.syndrome.specs.Failing.{wordVerdict};
 ghost use Rattle.syndrome.specs.Places.{Part, BitsAt, ones, Checks, rowFails, Places};
 

@@ -13,11 +13,11 @@ use Rattle.counting.specs.Sum.{sum, same, differ}
 use Rattle.counting.specs.Search.{any, first}
 use Rattle.answers.specs.Paper.{accepted}
 use Rattle.packed_word.specs.Packed.{bitAt, spareSet, Bytes, distance}
-use Rattle.parity_check.specs.Code.{entry, has, weight, common, fails, failing}
-use Rattle.parity_check.specs.Check.{sizesFit, badEntry, badWeight, overlapping, listOf, checkOf}
-use Rattle.quantiser.specs.Samples.{stepFits, settingFits, hardOf, hardBit, notFinite}
+use Rattle.matrix.specs.Code.{entry, has, weight, common, fails, failing}
+use Rattle.matrix.specs.Check.{sizesFit, badEntry, badWeight, overlapping, listOf, checkOf}
+use Rattle.quantiser_levels.specs.Samples.{stepFits, settingFits, hardOf, hardBit, notFinite}
 use Rattle.majority_logic.specs.Claims.{IsWord, Sent, flips, WithinHalf}
-use Rattle.iterative.specs.Iterative.{samplesVerdict, iterativeVerdict}
+use Rattle.iterative_core.specs.Iterative.{samplesVerdict, iterativeVerdict}
 use Rattle.iterative_rule.specs.Claims.{wrongBits, SamplesWithinHalf}
 use Rattle.iterative_rule.proofs.FlippingRule.{iterative-rule}
 use Rattle.worked_examples.specs.Calls.{made}

@@ -10,12 +10,12 @@ use lib.IntN.{ℤ}
 use lib.Ieee.{Float}
 use lib.ListN.{length}
 use Rattle.answers.specs.Paper.{Said, report, after, written}
-use Rattle.parity_check.specs.Code.{Matrix}
-use Rattle.parity_check.specs.Check.{checkOf}
+use Rattle.matrix.specs.Code.{Matrix}
+use Rattle.matrix.specs.Check.{checkOf}
 use Rattle.syndrome.specs.Failing.{failingOf}
 use Rattle.majority_logic.specs.OneStep.{oneStepVerdict, oneStepOf, oneStepWord}
-use Rattle.quantiser.specs.Samples.{Choice}
-use Rattle.iterative.specs.Iterative.{iterativeVerdict, iterativeOf, iterativeWord, iterativeLevels}
+use Rattle.quantiser_levels.specs.Samples.{Choice}
+use Rattle.iterative_core.specs.Iterative.{iterativeVerdict, iterativeOf, iterativeWord, iterativeLevels}
 
 -- the matrix check; the count of failing checks of a received word; one-step voting on one; iterative voting on samples.
 -- The written buffers are lent last

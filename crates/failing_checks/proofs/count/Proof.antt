@@ -3,7 +3,7 @@ use borrow.Author.Needs.{needs}
 use mathlib.Core.Path.{_∙_}
 use native.Mathlib.Omega.{arith}
 use lib.ListN.{replicate}
-use Rattle.parity_check.specs.Shapes.{matrixOf}
+use Rattle.matrix.specs.Shapes.{matrixOf}
 use Rattle.syndrome.proofs.Unpacking.{unpacked-word, unpacked-failing}
 use Rattle.failing_checks.proofs.count.Statement.{statement}
 use Rattle.failing_checks.proofs.count.Tie as tie

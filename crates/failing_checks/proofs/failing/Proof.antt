@@ -2,8 +2,8 @@
 use borrow.Author.Needs.{needs}
 use mathlib.Core.Path.{sym, ap, _∙_}
 use Rattle.answers.specs.Answers.{verdictOf, numberOf, placeOf}
-use Rattle.parity_check.specs.Shapes.{matrixOf}
-use Rattle.parity_check.proofs.Reading.{accepted-is}
+use Rattle.matrix.specs.Shapes.{matrixOf}
+use Rattle.matrix.proofs.Reading.{accepted-is}
 use Rattle.failing_checks.proofs.Verdicts.{failing-matrix}
 use Rattle.failing_checks.proofs.failing.Statement.{statement}
 use Rattle.failing_checks.proofs.failing.Tie as tie

@@ -5,8 +5,8 @@ use mathlib.Core.Path.{sym, ap, _∙_}
 use Rattle.answers.specs.Paper.{report}
 use Rattle.answers.specs.Answers.{verdictOf, numberOf, placeOf}
 use Rattle.packed_word.specs.Packed.{bytesFor}
-use Rattle.parity_check.specs.Shapes.{matrixOf}
-use Rattle.parity_check.proofs.Reading.{is-accepted}
+use Rattle.matrix.specs.Shapes.{matrixOf}
+use Rattle.matrix.proofs.Reading.{is-accepted}
 use Rattle.syndrome.proofs.Received.{word-fits}
 use Rattle.failing_checks.proofs.Verdicts.{failing-refused, failing-says}
 use Rattle.failing_checks.proofs.failing_accepted.Statement.{statement}

@@ -1,7 +1,7 @@
 -- `ffi::mlgd_failing` meets its contract: the code of what the count says. Assumes nothing.
 use mathlib.Core.Path.{sym, ap, subst, _∙_}
-use Rattle.parity_check.specs.Code.{matrix}
-use Rattle.codes.specs.Codes.{codeOf, Small}
+use Rattle.matrix.specs.Code.{matrix}
+use Rattle.ffi_codes.specs.Codes.{codeOf, Small}
 use Rattle.ffi.proofs.Bounds.{failing-small}
 use borrow.Author.Needs.{needs}
 use Rattle.ffi.proofs.mlgd_failing.Statement.{statement}

@@ -3,18 +3,18 @@ use mathlib.Core.Path.{_≡_, sym, ap, subst, _∙_}
 use mathlib.Core.List.{List}
 use Prim.Native.Nat.{ℕ}
 use lib.IntN.{ℤ}
-use Rattle.parity_check.specs.Code.{Matrix, matrix}
+use Rattle.matrix.specs.Code.{Matrix, matrix}
 use Rattle.session_record.specs.Record.{Record}
 use Rattle.session_record.specs.Sessions.{recordOf}
-use Rattle.session_steps.specs.Leaving.{Leaves}
+use Rattle.session.specs.Leaving.{Leaves}
 use Rattle.session_asking.specs.Asked.{Held}
-use Rattle.session_steps.specs.Steps.{Left, openOf}
+use Rattle.session.specs.Steps.{Left, openOf}
 use Rattle.session_asking.specs.Asked.{lent}
-use Rattle.codes.specs.Codes.{Small}
-use Rattle.codes.specs.Records.{recordIn}
-use Rattle.quantiser.specs.Samples.{Choice}
-use Rattle.quantiser.specs.Settings.{choiceOf}
-use Rattle.codes.specs.Settings.{choice}
+use Rattle.ffi_codes.specs.Codes.{Small}
+use Rattle.ffi_codes.specs.Records.{recordIn}
+use Rattle.quantiser_levels.specs.Samples.{Choice}
+use Rattle.quantiser_settings.specs.Settings.{choiceOf}
+use Rattle.ffi_codes.specs.Settings.{choice}
 use Rattle.ffi.proofs.Sessions.{open-small, open-alike, called, on-record, no-record}
 use borrow.Author.Needs.{needs}
 use Rattle.ffi.proofs.mlgd_open.Statement.{statement}

@@ -2,9 +2,9 @@
 use mathlib.Core.Path.{ap, _∙_}
 use Rattle.answers.specs.Paper.{Verdict, after, report}
 use Rattle.answers.specs.Answers.{verdictOf}
-use Rattle.quantiser.specs.Settings.{choiceOf}
-use Rattle.codes.specs.Codes.{codeOf}
-use Rattle.codes.specs.Settings.{choice}
+use Rattle.quantiser_settings.specs.Settings.{choiceOf}
+use Rattle.ffi_codes.specs.Codes.{codeOf}
+use Rattle.ffi_codes.specs.Settings.{choice}
 use Rattle.ffi.proofs.Alike.{quantise-alike}
 use borrow.Author.Needs.{needs}
 use Rattle.ffi.proofs.mlgd_quantise.Statement.{statement}

@@ -3,15 +3,15 @@ use mathlib.Core.Path.{sym, subst}
 use mathlib.Core.List.{List}
 use Prim.Native.Nat.{ℕ}
 use lib.IntN.{ℤ}
-use Rattle.parity_check.specs.Code.{Matrix, matrix}
+use Rattle.matrix.specs.Code.{Matrix, matrix}
 use Rattle.session_record.specs.Record.{Record}
 use Rattle.session_record.specs.Sessions.{recordOf}
-use Rattle.session_steps.specs.Leaving.{Leaves}
+use Rattle.session.specs.Leaving.{Leaves}
 use Rattle.session_asking.specs.Asked.{Held}
-use Rattle.session_steps.specs.Steps.{stepOf}
+use Rattle.session.specs.Steps.{stepOf}
 use Rattle.session_asking.specs.Asked.{lent}
-use Rattle.codes.specs.Codes.{Small}
-use Rattle.codes.specs.Records.{recordIn}
+use Rattle.ffi_codes.specs.Codes.{Small}
+use Rattle.ffi_codes.specs.Records.{recordIn}
 use Rattle.ffi.proofs.Sessions.{step-small, called, on-record, no-record}
 use borrow.Author.Needs.{needs}
 use Rattle.ffi.proofs.mlgd_step.Statement.{statement}

@@ -1,8 +1,8 @@
 -- `ffi_bench::mlgd_one_step_accepted` meets its contract: the code of the core's report, and the word that it writes. Assumes nothing.
 use mathlib.Core.Path.{sym, ap, subst, _∙_}
 use Rattle.packed_word.specs.Packed.{bitAt}
-use Rattle.parity_check.specs.Code.{matrix}
-use Rattle.codes.specs.Codes.{codeOf, Small}
+use Rattle.matrix.specs.Code.{matrix}
+use Rattle.ffi_codes.specs.Codes.{codeOf, Small}
 use Rattle.ffi.proofs.Bounds.{report-small}
 use borrow.Author.Needs.{needs}
 use Rattle.ffi_bench.proofs.mlgd_one_step_accepted.Statement.{statement}

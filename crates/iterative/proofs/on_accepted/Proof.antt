@@ -2,8 +2,8 @@
 use mathlib.Core.Path.{refl, sym, ap, _∙_}
 use borrow.Author.Needs.{needs}
 use Rattle.answers.specs.Answers.{verdictOf, numberOf, placeOf}
-use Rattle.parity_check.specs.Code.{Matrix}
-use Rattle.parity_check.specs.Shapes.{matrixOf}
+use Rattle.matrix.specs.Code.{Matrix}
+use Rattle.matrix.specs.Shapes.{matrixOf}
 use Rattle.iterative_core.proofs.Loans.{samples-lent}
 use Rattle.iterative.proofs.Answering.{refused-samples, answered-decoded}
 use Rattle.iterative.proofs.on_accepted.Statement.{statement}

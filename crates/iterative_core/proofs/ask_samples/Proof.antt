@@ -8,8 +8,8 @@ use lib.ListN.{length}
 use Rattle.answers.specs.Paper.{wrongLengths}
 use Rattle.answers.proofs.Verdicts.{lengths-fit}
 use Rattle.packed_word.specs.Packed.{bytesFor}
-use Rattle.quantiser.specs.Samples.{settingFits}
-use Rattle.quantiser.specs.Settings.{choiceOf}
+use Rattle.quantiser_levels.specs.Samples.{settingFits}
+use Rattle.quantiser_settings.specs.Settings.{choiceOf}
 use Rattle.iterative_core.proofs.Asking.{says-setting, says-lengths, says-sample, says-finite}
 use Rattle.iterative_core.proofs.ask_samples.Statement.{statement}
 use Rattle.iterative_core.proofs.ask_samples.Tie as tie

@@ -5,7 +5,7 @@ use Prim.Native.Nat.{ℕ}
 use native.Mathlib.Omega.{arith}
 use borrow.Author.Needs.{needs}
 use lib.ListN.{length-replicate}
-use Rattle.quantiser.proofs.Ranges.{fits-reads}
+use Rattle.quantiser_settings.proofs.Ranges.{fits-reads}
 use Rattle.iterative_core.proofs.Finishing.{call-ready, call-hard, call-bits, call-restorable, call-decoded, packed-room}
 use Rattle.iterative_core.proofs.iterative_accepted.Statement.{statement}
 use Rattle.iterative_core.proofs.iterative_accepted.Tie as tie

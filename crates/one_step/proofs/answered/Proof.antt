@@ -2,8 +2,8 @@
 use mathlib.Core.Path.{refl, sym, ap, _∙_}
 use borrow.Author.Needs.{needs}
 use Rattle.answers.specs.Answers.{verdictOf, numberOf, placeOf}
-use Rattle.parity_check.specs.Shapes.{matrixOf}
-use Rattle.parity_check.proofs.Reading.{accepted-is}
+use Rattle.matrix.specs.Shapes.{matrixOf}
+use Rattle.matrix.proofs.Reading.{accepted-is}
 use Rattle.one_step.proofs.Answering.{refused-matrix}
 use Rattle.one_step.proofs.answered.Statement.{statement}
 use Rattle.one_step.proofs.answered.Tie as tie

@@ -2,8 +2,8 @@
 use mathlib.Core.Path.{refl, sym, ap, _∙_}
 use borrow.Author.Needs.{needs}
 use Rattle.answers.specs.Answers.{verdictOf, numberOf, placeOf, reportOf}
-use Rattle.parity_check.specs.Code.{Matrix}
-use Rattle.parity_check.specs.Shapes.{matrixOf}
+use Rattle.matrix.specs.Code.{Matrix}
+use Rattle.matrix.specs.Shapes.{matrixOf}
 use Rattle.one_step.proofs.Answering.{refused-word, word-lent, answered-voted}
 use Rattle.one_step.proofs.on_accepted.Statement.{statement}
 use Rattle.one_step.proofs.on_accepted.Tie as tie

@@ -1,8 +1,8 @@
 -- `one_step::one_step` meets its contract: the flipping rule is a theorem on what is answered. Assumes nothing.
 use borrow.Author.Needs.{needs}
 use Rattle.answers.specs.Answers.{saidOf}
-use Rattle.parity_check.specs.Code.{Matrix}
-use Rattle.parity_check.specs.Shapes.{matrixOf}
+use Rattle.matrix.specs.Code.{Matrix}
+use Rattle.matrix.specs.Shapes.{matrixOf}
 use Rattle.one_step.proofs.Answering.{answered-rule}
 use Rattle.one_step.proofs.one_step.Statement.{statement}
 use Rattle.one_step.proofs.one_step.Tie as tie

@@ -7,8 +7,8 @@ use borrow.Author.Needs.{needs}
 use lib.ListN.{length, take, replicate}
 use Rattle.answers.specs.Answers.{reportOf}
 use Rattle.packed_word.specs.Packed.{bytesFor}
-use Rattle.parity_check.specs.Code.{Matrix}
-use Rattle.parity_check.specs.Shapes.{matrixOf}
+use Rattle.matrix.specs.Code.{Matrix}
+use Rattle.matrix.specs.Shapes.{matrixOf}
 use Rattle.syndrome.proofs.Unpacking.{unpacked-word}
 use Rattle.one_step_core.proofs.Finishing.{stepped-bits, written-long, voted-call}
 use Rattle.one_step_core.proofs.one_step_accepted.Statement.{statement}

@@ -1,7 +1,7 @@
 -- `one_step_core::vote` meets its contract: the tally, and where a check fails the flips and the count, are the definition's. Assumes nothing.
 use borrow.Author.Needs.{needs}
-use Rattle.parity_check.specs.Code.{Matrix, Word}
-use Rattle.parity_check.specs.Shapes.{matrixOf}
+use Rattle.matrix.specs.Code.{Matrix, Word}
+use Rattle.matrix.specs.Shapes.{matrixOf}
 use Rattle.one_step_core.proofs.Voting.{stepped-clean, stepped-voted, voted-bits}
 use Rattle.one_step_core.proofs.vote.Statement.{statement}
 use Rattle.one_step_core.proofs.vote.Tie as tie

@@ -3,9 +3,9 @@ use mathlib.Core.Path.{_≡_, ap, _∙_}
 use Prim.Native.Nat.{ℕ, _*_, _-_, _≤_}
 use native.Mathlib.Omega.{arith}
 use lib.ListN.{length}
-use Rattle.packed_bits.specs.Packed.{bitAt, distance}
-use Rattle.packed_bits.proofs.Distances.{distance-le}
-use Rattle.packed_bits.proofs.Counts.{distance-none, distance-more, apart-few}
+use Rattle.packed_word.specs.Packed.{bitAt, distance}
+use Rattle.packed_word.proofs.Distances.{distance-le}
+use Rattle.packed_word.proofs.Counts.{distance-none, distance-more, apart-few}
 use Rattle.packed_word.proofs.differing.Statement.{statement}
 use Rattle.packed_word.proofs.differing.Tie as tie
 

@@ -7,8 +7,8 @@ use lib.ListN.{length, length-set}
 use Rattle.counting.specs.Lists.{listed, over}
 use Rattle.counting.specs.Places.{at}
 use Rattle.counting.proofs.Writing.{over-none}
-use Rattle.packed_bits.specs.Packed.{bytesFor, packedByte, pack}
-use Rattle.packed_bits.proofs.Storing.{over-next}
+use Rattle.packed_word.specs.Packed.{bytesFor, packedByte, pack}
+use Rattle.packed_word.proofs.Storing.{over-next}
 use Rattle.packed_word.proofs.pack_into.Statement.{statement}
 use Rattle.packed_word.proofs.pack_into.Tie as tie
 

@@ -1,5 +1,5 @@
 -- `packed_word::places_apart` meets its contract: the set digits of the exclusive or are the places at which the bytes differ. Assumes nothing.
-use Rattle.packed_bits.proofs.Counts.{ones-apart}
+use Rattle.packed_word.proofs.Counts.{ones-apart}
 use Rattle.packed_word.proofs.places_apart.Statement.{statement}
 use Rattle.packed_word.proofs.places_apart.Tie as tie
 

@@ -1,5 +1,5 @@
 -- `packed_word::with_bit` meets its contract: the shift has room, so the or adds the bit. Assumes nothing.
-use Rattle.packed_bits.proofs.Masks.{shl-or}
+use Rattle.packed_word.proofs.Masks.{shl-or}
 use Rattle.packed_word.proofs.with_bit.Statement.{statement}
 use Rattle.packed_word.proofs.with_bit.Tie as tie
 

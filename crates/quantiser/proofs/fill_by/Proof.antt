@@ -6,11 +6,11 @@ use native.Mathlib.Omega.{arith}
 use borrow.Author.Needs.{needs, sfits-of}
 use mir.ValLaws.{toZ-ofZ}
 use lib.ListN.{length}
-use Rattle.sample_levels.specs.Samples.{hardBit}
-use Rattle.sample_levels.specs.Scaling.{levelAt}
+use Rattle.quantiser_levels.specs.Samples.{hardBit}
+use Rattle.quantiser_levels.specs.Scaling.{levelAt}
 use Rattle.quantiser.specs.Filling.{Stored}
-use Rattle.settings.proofs.Ranges.{all-finite}
-use Rattle.sample_levels.proofs.Signs.{cell}
+use Rattle.quantiser_settings.proofs.Ranges.{all-finite}
+use Rattle.quantiser_levels.proofs.Signs.{cell}
 use Rattle.quantiser.proofs.Filling.{stored-none, stored-more}
 use Rattle.quantiser.proofs.fill_by.Statement.{statement}
 use Rattle.quantiser.proofs.fill_by.Tie as tie

@@ -7,7 +7,7 @@ use borrow.Author.Needs.{needs}
 use lib.ListN.{length}
 use Rattle.counting.specs.Search.{any}
 use Rattle.counting.proofs.Searches.{any-none, any-step, any-clear, first-none, first-at}
-use Rattle.sample_levels.specs.Samples.{notFinite}
+use Rattle.quantiser_levels.specs.Samples.{notFinite}
 use Rattle.quantiser.proofs.first_not_finite.Statement.{statement}
 use Rattle.quantiser.proofs.first_not_finite.Tie as tie
 

@@ -10,8 +10,8 @@ use lib.ListN.{length}
 use Rattle.counting.proofs.Searches.{first-le}
 use Rattle.answers.specs.Paper.{refused}
 use Rattle.packed_word.specs.Packed.{bytesFor}
-use Rattle.sample_levels.specs.Samples.{settingFits, notFinite, firstNotFinite}
-use Rattle.settings.specs.Settings.{choiceOf}
+use Rattle.quantiser_levels.specs.Samples.{settingFits, notFinite, firstNotFinite}
+use Rattle.quantiser_settings.specs.Settings.{choiceOf}
 use Rattle.quantiser.specs.Filling.{tooShort}
 use Rattle.quantiser.proofs.Filling.{filled-bit}
 use Rattle.quantiser.proofs.Verdicts.{verdict-setting, verdict-buffer, verdict-sample, verdict-accepted, long-enough}

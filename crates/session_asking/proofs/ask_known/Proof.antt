@@ -7,7 +7,7 @@ use Rattle.answers.specs.Answers.{verdictOf}
 use Rattle.session_record.specs.Sessions.{recordOf}
 use Rattle.session_asking.specs.Asked.{unusable, ended, otherSizes}
 use Rattle.session_asking.specs.Parts.{knownVerdict}
-use Rattle.parity_check.specs.Shapes.{matrixOf}
+use Rattle.matrix.specs.Shapes.{matrixOf}
 use Rattle.session_asking.proofs.ask_known.Statement.{statement}
 use Rattle.session_asking.proofs.ask_known.Tie as tie
 

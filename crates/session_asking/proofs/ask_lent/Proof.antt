@@ -7,8 +7,8 @@ use borrow.Author.Needs.{needs}
 use lib.ListN.{length}
 use Rattle.answers.specs.Paper.{accepted, refuseWhen}
 use Rattle.answers.specs.Answers.{verdictOf, numberOf, placeOf}
-use Rattle.parity_check.specs.Code.{Matrix}
-use Rattle.parity_check.specs.Shapes.{matrixOf}
+use Rattle.matrix.specs.Code.{Matrix}
+use Rattle.matrix.specs.Shapes.{matrixOf}
 use Rattle.syndrome.specs.Failing.{wordVerdict}
 use Rattle.syndrome.proofs.Received.{word-fits}
 use Rattle.session_asking.specs.Asked.{Held, beyond}

@@ -4,8 +4,8 @@ use mathlib.Core.List.{List}
 use Prim.Native.Nat.{ℕ}
 use borrow.Author.Needs.{needs}
 use Rattle.answers.specs.Answers.{verdictOf, numberOf, placeOf}
-use Rattle.parity_check.specs.Code.{Matrix}
-use Rattle.parity_check.specs.Shapes.{matrixOf}
+use Rattle.matrix.specs.Code.{Matrix}
+use Rattle.matrix.specs.Shapes.{matrixOf}
 use Rattle.session_asking.specs.Asked.{Held}
 use Rattle.session_asking.specs.Parts.{heldOf}
 use Rattle.session_asking.proofs.Asking.{known-usable, known-matrix}

@@ -2,10 +2,10 @@
 use mathlib.Core.Path.{sym, ap, _∙_}
 use borrow.Author.Needs.{needs}
 use Rattle.answers.specs.Answers.{verdictOf, numberOf, placeOf}
-use Rattle.parity_check.specs.Code.{Matrix}
-use Rattle.parity_check.specs.Shapes.{matrixOf}
-use Rattle.parity_check.proofs.Reading.{accepted-is}
-use Rattle.quantiser.specs.Settings.{choiceOf}
+use Rattle.matrix.specs.Code.{Matrix}
+use Rattle.matrix.specs.Shapes.{matrixOf}
+use Rattle.matrix.proofs.Reading.{accepted-is}
+use Rattle.quantiser_settings.specs.Settings.{choiceOf}
 use Rattle.session_asking.proofs.Parts.{says-open-matrix, says-samples}
 use Rattle.session_opening.proofs.ask_open.Statement.{statement}
 use Rattle.session_opening.proofs.ask_open.Tie as tie

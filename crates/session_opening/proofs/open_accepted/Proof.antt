@@ -1,12 +1,12 @@
 -- `session_opening::open_accepted` meets its contract: the levels and the hard bits, and the counts on them. Assumes nothing.
 use borrow.Author.Needs.{needs}
 use Rattle.counting.specs.Places.{at}
-use Rattle.parity_check.specs.Code.{Matrix, Word}
-use Rattle.parity_check.specs.Shapes.{matrixOf}
-use Rattle.quantiser.specs.Settings.{choiceOf}
+use Rattle.matrix.specs.Code.{Matrix, Word}
+use Rattle.matrix.specs.Shapes.{matrixOf}
+use Rattle.quantiser_settings.specs.Settings.{choiceOf}
 use Rattle.session_asking.specs.Asked.{Held, lent}
-use Rattle.session_steps.specs.Leaving.{blank}
-use Rattle.session_steps.proofs.Answering.{open-fillable, cells-word, open-leaves}
+use Rattle.session.specs.Leaving.{blank}
+use Rattle.session.proofs.Answering.{open-fillable, cells-word, open-leaves}
 use Rattle.session_opening.proofs.open_accepted.Statement.{statement}
 use Rattle.session_opening.proofs.open_accepted.Tie as tie
 

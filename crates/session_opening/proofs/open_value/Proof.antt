@@ -2,15 +2,15 @@
 use mathlib.Core.Path.{_≡_, sym, ap, _∙_}
 use borrow.Author.Needs.{needs}
 use Rattle.answers.specs.Answers.{verdictOf, numberOf, placeOf}
-use Rattle.parity_check.specs.Code.{Matrix}
-use Rattle.parity_check.specs.Shapes.{matrixOf}
-use Rattle.quantiser.specs.Settings.{choiceOf}
+use Rattle.matrix.specs.Code.{Matrix}
+use Rattle.matrix.specs.Shapes.{matrixOf}
+use Rattle.quantiser_settings.specs.Settings.{choiceOf}
 use Rattle.session_record.specs.Sessions.{recordOf}
 use Rattle.session_asking.specs.Asked.{Held, lent, openVerdict}
 use Rattle.session_asking.specs.Parts.{heldOf}
-use Rattle.session_steps.specs.Leaving.{blank}
+use Rattle.session.specs.Leaving.{blank}
 use Rattle.session_asking.proofs.Asking.{accepted-open}
-use Rattle.session_steps.proofs.Answering.{leaves-opened, leaves-unopened}
+use Rattle.session.proofs.Answering.{leaves-opened, leaves-unopened}
 use Rattle.session_opening.proofs.open_value.Statement.{statement}
 use Rattle.session_opening.proofs.open_value.Tie as tie
 

@@ -5,8 +5,8 @@ use native.Mathlib.Nat.{le-antisymm}
 use native.Mathlib.Omega.{arith}
 use Rattle.counting.specs.Sum.{sum}
 use Rattle.counting.specs.Places.{at}
-use Rattle.parity_check.specs.Code.{failing}
-use Rattle.parity_check.specs.Shapes.{matrixOf}
+use Rattle.matrix.specs.Code.{failing}
+use Rattle.matrix.specs.Shapes.{matrixOf}
 use Rattle.syndrome.specs.Places.{rowFails}
 use Rattle.syndrome.proofs.Parity.{row-part, checks, row-is, row-fails, count-step, count-most}
 use Rattle.syndrome.proofs.failing_count.Statement.{statement}

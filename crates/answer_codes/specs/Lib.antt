@@ -1,2 +1,0 @@
--- What the contracts of `answer_codes` cite.
-pub mod Codes

@@ -1,3 +1,0 @@
--- What the contracts of `block_lines` cite.
-pub mod Blocks
-pub mod Lending

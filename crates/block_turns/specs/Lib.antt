@@ -1,2 +1,0 @@
--- What the contracts of `block_turns` cite.
-pub mod Turns

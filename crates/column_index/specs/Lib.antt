@@ -1,2 +1,0 @@
--- What the contracts of `column_index` cite.
-pub mod Index

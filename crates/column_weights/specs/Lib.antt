@@ -1,2 +1,0 @@
--- What the contracts of `column_weights` cite.
-pub mod Walking

@@ -1,0 +1,50 @@
+-- `ffi_codes::counted_code` meets its contract: each case by what it ensures. Assumes nothing.
+use Prim.Native.Nat.{ℕ, _+_, _*_}
+use native.Mathlib.Omega.{arith}
+use mathlib.Core.Path.{_≡_, sym, ap, _∙_}
+use Rattle.answers.specs.declared.Counted.{Counted}
+use Rattle.answers.specs.Answers.{countedOf}
+use Rattle.ffi_codes.specs.Codes.{codeOf}
+use borrow.Author.Needs.{needs}
+use Rattle.ffi_codes.proofs.counted_code.Statement.{statement}
+use Rattle.ffi_codes.proofs.counted_code.Tie as tie
+
+enum-known-a : tie.Need-enum-known-a
+enum-known-a c = search needs
+
+cast-result : tie.Need-cast-result
+cast-result c = search needs
+
+mul-result : tie.Need-mul-result
+mul-result c = search needs
+
+mul-result-2 : tie.Need-mul-result-2
+mul-result-2 c = search needs
+
+enum-known-a-2 : tie.Need-enum-known-a-2
+enum-known-a-2 c = search needs
+
+refusal-code-requires : tie.Need-refusal-code-requires
+refusal-code-requires c κs = search needs
+
+returns : tie.Need-returns
+returns c =
+    let f : ℕ = c .before .a .given .0 .0 in
+    let e : 4294967296 * (256 * f) ≡ 0 + 4294967296 * (0 + 256 * (f + 4096 * 0)) = omega arith in
+    e ∙ ap (λ (a : Counted). codeOf (countedOf a)) (sym (c .before .a .given .1))
+
+returns-2 : tie.Need-returns-2
+returns-2 c = c .refusal-code .ensures ∙ ap (λ (a : Counted). codeOf (countedOf a)) (sym (c .before .before .a2 .given .1))
+
+pub counted-code-spec : {M : Type 1} → statement M
+counted-code-spec =
+    tie.close
+    (tie.spec
+    enum-known-a
+    cast-result
+    mul-result
+    mul-result-2
+    enum-known-a-2
+    refusal-code-requires
+    returns
+    returns-2)

@@ -1,2 +1,0 @@
--- What the contracts of `flips` cite.
-pub mod Flips

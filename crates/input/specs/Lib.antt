@@ -1,4 +1,0 @@
--- What the contracts of `input` cite.
-pub mod Input
-pub mod Opening
-pub mod Runs

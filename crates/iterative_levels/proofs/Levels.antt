@@ -1,0 +1,88 @@
+-- Laws of levels kept as numbers: the next one is that of R + E cut to -L and L, and the bit is that of R.
+-- Levels stay from -L to L. Assumes nothing.
+use mathlib.Core.Path.{_≡_, refl, sym, ap, _∙_}
+use mathlib.Core.Bool.{Bool, true, false, cond}
+use Prim.Native.Nat.{ℕ, zero, suc, min, _+_, _-_, _*_, _≤_, _<_}
+use native.Mathlib.Decide.{decLt}
+use native.Mathlib.Omega.{arith}
+use borrow.Author.Tests.{lt-ltb, le-ltb, eq-eqb, ne-eqb}
+use lib.Dec.{ltb}
+use lib.IntN.{ℤ, pos, negsuc, negℤ, natAbs, subℕ, _+ℤ_}
+use Rattle.counting.specs.Sum.{flag}
+use Rattle.counting.specs.Integers.{cut, above}
+use Rattle.counting.proofs.Integers.{sub-ge, sub-lt, sub-sum}
+use Rattle.iterative_levels.specs.Levels.{biased, nextLevel, aboveMiddle}
+
+-- ---- a level and its number
+
+biased-neg : (L t : ℕ) → biased L (negℤ (pos t)) ≡ L - t
+biased-neg L zero = omega arith
+biased-neg L (suc t) = refl
+
+pub biased-le : (L : ℕ) (r : ℤ) → natAbs r ≤ L → biased L r ≤ 2 * L
+biased-le L (pos k) h = omega arith
+biased-le L (negsuc k) h = omega arith
+
+-- from the number back to the level
+pub biased-back : (L : ℕ) (r : ℤ) → natAbs r ≤ L → subℕ (biased L r) L ≡ r
+biased-back L (pos k) h = sub-ge (L + k) L k refl
+biased-back L (negsuc k) h = sub-lt (L - suc k) L k (omega arith)
+
+-- and from a level to its number
+pub back-biased : (L x : ℕ) → biased L (subℕ x L) ≡ x
+back-biased L x =
+    elim (decLt x L) [
+      | yes l ↦ rw (sub-lt x L (L - x - 1) (omega arith)) (omega arith)
+      | no g ↦ rw (sub-ge x L (x - L) (omega arith)) (omega arith)
+    ]
+
+-- a difference cut to -L and L, as its number: subtraction stops at 0
+biased-cut : (L p q : ℕ) → biased L (cut L (subℕ p q)) ≡ min (2 * L) (L + p - q)
+biased-cut L p q =
+    elim (decLt p q) [
+      | yes l ↦ rw (sub-lt p q (q - p - 1) (omega arith)) (biased-neg L (min (suc (q - p - 1)) L) ∙ omega arith)
+      | no g ↦ rw (sub-ge p q (p - q) (omega arith)) (omega arith)
+    ]
+
+-- R + E cut to -L and L, where E is a - b
+pub next-biased : (L a b : ℕ) (r : ℤ) → natAbs r ≤ L → biased L (cut L (r +ℤ subℕ a b)) ≡ min (2 * L) (biased L r + a - b)
+next-biased L a b r h =
+    ap (λ (x : ℤ). biased L (cut L (x +ℤ subℕ a b))) (sym (biased-back L r h))
+    ∙ ap (λ (x : ℤ). biased L (cut L x)) (sub-sum (biased L r) L a b)
+    ∙ biased-cut L (biased L r + a) (L + b)
+    ∙ ap (min (2 * L)) (omega arith)
+
+-- ---- the two cases of the next level
+
+pub next-zero : (gamma L v z : ℕ) (r : ℤ) → z ≡ 0 → natAbs r ≤ L → nextLevel gamma (2 * L) (biased L r) z v ≡ biased L (cut L (r +ℤ subℕ (2 * v) gamma))
+unfolding nextLevel
+next-zero gamma L v z r e h =
+    ap (λ (t : Bool). cond t (min (2 * L) (biased L r + 2 * v - gamma)) (min (2 * L) (biased L r + gamma - 2 * v))) (eq-eqb z 0 e)
+    ∙ sym (next-biased L (2 * v) gamma r h)
+
+pub next-one : (gamma L v z : ℕ) (r : ℤ) → z ≡ 1 → natAbs r ≤ L → nextLevel gamma (2 * L) (biased L r) z v ≡ biased L (cut L (r +ℤ subℕ gamma (2 * v)))
+unfolding nextLevel
+next-one gamma L v z r e h =
+    ap (λ (t : Bool). cond t (min (2 * L) (biased L r + 2 * v - gamma)) (min (2 * L) (biased L r + gamma - 2 * v))) (ne-eqb z 0 (λ q. omega arith))
+    ∙ sym (next-biased L gamma (2 * v) r h)
+
+-- ---- the bit
+
+pub above-biased : (L : ℕ) (r : ℤ) → aboveMiddle L (biased L r) ≡ above r
+unfolding aboveMiddle
+above-biased L (pos zero) = ap flag (le-ltb L (L + 0) (omega arith))
+above-biased L (pos (suc k)) = ap flag (lt-ltb L (L + suc k) (omega arith))
+above-biased L (negsuc k) = ap flag (le-ltb L (L - suc k) (omega arith))
+
+pub above-bit : (r : ℤ) → above r < 2
+above-bit (pos zero) = omega arith
+above-bit (pos (suc k)) = omega arith
+above-bit (negsuc k) = omega arith
+
+pub above-middle-bit : (L x : ℕ) → aboveMiddle L x < 2
+unfolding aboveMiddle
+above-middle-bit L x = flag-bit (ltb L x)
+  where
+    flag-bit : (t : Bool) → flag t < 2
+    flag-bit true = omega arith
+    flag-bit false = omega arith

@@ -1,0 +1,77 @@
+-- `iterative_levels::update` meets its contract. The invariant: the first j bits and levels are those of the next round, the others as they were.
+-- Assumes nothing.
+use Prim.Native.Nat.{_-_, _≤_}
+use native.Mathlib.Nat.{le-antisymm}
+use native.Mathlib.Omega.{arith}
+use borrow.Author.Needs.{needs}
+use Rattle.iterative_levels.specs.Levels.{Moved}
+use Rattle.iterative_levels.proofs.Passing.{moved-none, moved-step}
+use Rattle.iterative_levels.proofs.update.Statement.{statement}
+use Rattle.iterative_levels.proofs.update.Tie as tie
+
+abbrev Inv-loop : tie.InvT-loop
+Inv-loop votes n gamma middle top bits₀ levels₀ j₀ bits levels j = (j ≤ n) × Moved votes j gamma middle top bits₀ levels₀ bits levels
+
+abbrev μ-loop : tie.MeasureT-loop
+μ-loop votes n gamma middle top bits₀ levels₀ j₀ bits levels j = n - j
+
+loop-holds : tie.Need-loop-holds Inv-loop μ-loop
+loop-holds c = (omega arith, moved-none _ _ _ _ _ _ (c .pre .1) (c .pre .2))
+
+element-copy-out-next-level : tie.Need-element-copy-out-next-level Inv-loop μ-loop
+element-copy-out-next-level c = omega arith
+
+element-copy-out-next-level-2 : tie.Need-element-copy-out-next-level-2 Inv-loop μ-loop
+element-copy-out-next-level-2 c = omega arith
+
+element-copy-out-next-level-3 : tie.Need-element-copy-out-next-level-3 Inv-loop μ-loop
+element-copy-out-next-level-3 c = omega arith
+
+next-level-requires : tie.Need-next-level-requires Inv-loop μ-loop
+next-level-requires c κs = let p = c .before .before .before .before .before .pre .0 in (p .weight, p .levels)
+
+element-write-levels : tie.Need-element-write-levels Inv-loop μ-loop
+element-write-levels c = omega arith
+
+is-above-requires : tie.Need-is-above-requires Inv-loop μ-loop
+is-above-requires c κs = search needs
+
+element-write-bits : tie.Need-element-write-bits Inv-loop μ-loop
+element-write-bits c = omega arith
+
+add-j : tie.Need-add-j Inv-loop μ-loop
+add-j c = omega arith
+
+loop-less : tie.Need-loop-less Inv-loop μ-loop
+loop-less c = omega arith
+
+loop-again : tie.Need-loop-again Inv-loop μ-loop
+loop-again c =
+    let l = c .before .before .before .before .before .before in
+    let a = l .before .args in (
+      omega arith,
+      moved-step (a .votes .now) (l .loop .j) (a .gamma) (a .middle) (a .top) (a .bits .now) (a .levels .now) (l .loop .bits) (l .loop .levels) (l .loop .inv .1)
+          (omega (arith, l .before .pre .0 .columns)) (c .before .next-level .result) (c .is-above .result) (c .before .next-level .ensures) (c .is-above .ensures),
+    )
+
+returns : tie.Need-returns Inv-loop μ-loop
+returns c = rw (le-antisymm (c .before .loop .inv .0) (omega arith)) at (c .before .loop .inv .1)
+
+pub update-spec : {M : Type 1} → statement M
+update-spec =
+    tie.close
+    (tie.spec
+    Inv-loop
+    μ-loop
+    loop-holds
+    element-copy-out-next-level
+    element-copy-out-next-level-2
+    element-copy-out-next-level-3
+    next-level-requires
+    element-write-levels
+    is-above-requires
+    element-write-bits
+    add-j
+    loop-less
+    loop-again
+    returns)

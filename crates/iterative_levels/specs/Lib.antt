@@ -1,0 +1,2 @@
+-- What the contracts of `iterative_levels` cite.
+pub mod Levels

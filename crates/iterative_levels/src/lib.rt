@@ -1,0 +1,113 @@
+// Stored levels of bits: one pass of a round over them, and how they are kept between passes.
+// A level R from -L to L is kept as R + L: cutting at -L is then the subtraction that stops at 0.
+// Rests on `counting` and `packed_word`. Document 01: "Iterative voting", steps 4 to 6.
+ghost use mathlib.Core.Path.{_≡_};
+ghost use Prim.Native.Nat.{min, _+_, _-_, _*_, _<_, _≤_};
+ghost use lib.IntN.{natAbs, subℕ};
+ghost use lib.ListN.{length};
+ghost use Rattle.counting.specs.Lists.{listed, over};
+ghost use Rattle.iterative_levels.specs.Levels.{biased, unbiased, nextLevel, aboveMiddle, Bounds, Moved, Bounded, Biased, Restorable};
+
+// x + plus - minus, cut to 0 and top.
+fn shifted(x: u16, plus: u16, minus: u16, top: u16) -> u16
+    requires { ⌜ x + plus < 65536 ⌝ }
+    ensures { λ r. ⌜ r ≡ min top (x + plus - minus) ⌝ }
+{
+    let up = x + plus;
+    if up < minus {
+        return 0;
+    }
+    let y = up - minus;
+    if y < top {
+        return y;
+    }
+    top
+}
+
+// The next level of a bit z with v failing checks of gamma: E is 2v - gamma where z is 0, gamma - 2v where it is 1.
+fn next_level(x: u8, z: u8, v: u8, gamma: u16, top: u16) -> u8
+    requires { ⌜ (gamma ≤ 255) × (top ≤ 255) ⌝ }
+    ensures { λ r. ⌜ r ≡ nextLevel gamma top x z v ⌝ }
+{
+    let level = x as u16;
+    let twice = 2 * (v as u16);
+    if z == 0 {
+        let y = shifted(level, twice, gamma, top);
+        return y as u8;
+    }
+    let y = shifted(level, gamma, twice, top);
+    y as u8
+}
+
+// The bit of a level: 1 exactly where R is above 0.
+fn is_above(x: u8, middle: u8) -> u8
+    ensures { λ r. ⌜ r ≡ aboveMiddle middle x ⌝ }
+{
+    if middle < x { 1 } else { 0 }
+}
+
+// Brings the first n levels and bits to the next round. Each reads its own votes, which are those of the old bits.
+// Only this repository's crates call it, with sizes of an accepted matrix.
+pub fn update(
+    votes: &[u8; 1023],
+    n: usize,
+    gamma: u16,
+    middle: u8,
+    top: u16,
+    bits: &mut [u8; 1023],
+    levels: &mut [u8; 1023],
+)
+    requires { ⌜ Bounds n gamma top × (length (now bits) ≡ 1023) × (length (now levels) ≡ 1023) ⌝ }
+    ensures { λ _. ⌜ Moved (now (votes .entry)) n gamma middle top (now (bits .entry)) (now (levels .entry)) (now (bits .exit)) (now (levels .exit)) ⌝ }
+{
+    let mut j = 0;
+    while j < n {
+        let x = next_level(levels[j], bits[j], votes[j], gamma, top);
+        levels[j] = x;
+        bits[j] = is_above(x, middle);
+        j += 1;
+    }
+}
+
+// R + L.
+fn bias_one(r: i8, middle: u8) -> u8
+    requires { ⌜ (middle ≤ 127) × (natAbs r ≤ middle) ⌝ }
+    ensures { λ x. ⌜ x ≡ biased middle r ⌝ }
+{
+    let s = (r as i16) + (middle as i16);
+    s as u8
+}
+
+// And back.
+fn unbias_one(x: u8, middle: u8) -> i8
+    requires { ⌜ (middle ≤ 127) × (x ≤ 2 * middle) ⌝ }
+    ensures { λ r. ⌜ r ≡ subℕ x middle ⌝ }
+{
+    let s = (x as i16) - (middle as i16);
+    s as i8
+}
+
+// Keeps the first n levels as R + L. Only this repository's crates call it, with levels from -L to L.
+pub fn bias(levels: &[i8], n: usize, middle: u8, kept: &mut [u8; 1023])
+    requires { ⌜ Bounded n middle (now levels) × (length (now kept) ≡ 1023) ⌝ }
+    ensures { λ _. ⌜ Biased n middle (now (levels .entry)) (now (kept .exit)) ⌝ }
+{
+    let mut j = 0;
+    while j < n {
+        kept[j] = bias_one(levels[j], middle);
+        j += 1;
+    }
+}
+
+// Writes the first n levels back. Only this repository's crates call it, with room for them.
+pub fn unbias(kept: &[u8; 1023], n: usize, middle: u8, levels: &mut [i8])
+    requires { ⌜ Restorable n middle (now kept) (now levels) ⌝ }
+    ensures { λ _. ⌜ now (levels .exit) ≡ over (listed n (unbiased middle (now (kept .entry)))) (now (levels .entry)) ⌝ }
+{
+    let mut j = 0;
+    while j < n {
+        let r = unbias_one(kept[j], middle);
+        levels[j] = r;
+        j += 1;
+    }
+}

@@ -1,0 +1,34 @@
+-- `iterative_rounds::round` meets its contract: what `update` leaves are bits, so that their votes can be tallied. Assumes nothing.
+use borrow.Author.Needs.{needs}
+use Rattle.matrix.specs.Shapes.{matrixOf}
+use Rattle.iterative_rounds.proofs.Running.{moved-word}
+use Rattle.iterative_rounds.proofs.round.Statement.{statement}
+use Rattle.iterative_rounds.proofs.round.Tie as tie
+
+cast-n : tie.Need-cast-n
+cast-n c = search needs
+
+mul-top : tie.Need-mul-top
+mul-top c = search needs
+
+update-requires : tie.Need-update-requires
+update-requires c κs = search needs
+
+retally-requires : tie.Need-retally-requires
+retally-requires c κs =
+    let z = c .before .before .before .before .before .before .before .before .before .before .before .before in
+    let H = matrixOf (z .args .shape) (z .args .list .now) in
+    ((z .pre .0 .matrix, z .pre .1 .0), (z .pre .0 .word, moved-word H _ _ _ _ _ _ _ _ (c .before .before .before .before .update .ensures), z .pre .1 .1))
+
+returns : tie.Need-returns
+returns c = search needs
+
+pub round-spec : {M : Type 1} → statement M
+round-spec =
+    tie.close
+    (tie.spec
+    cast-n
+    mul-top
+    update-requires
+    retally-requires
+    returns)

@@ -1,0 +1,52 @@
+-- What the arrays of a running decoder hold.
+--   stateOf L z x        == the state that the bits z and the levels x stand for
+--   Holds n L z x s      == they stand for the state s below n
+--   Ready H L z x        == what a round asks: an accepted matrix, bits, and levels in their range
+--   Rounded              == what a round leaves: the next bits and levels, their parities, their votes and their failing checks
+--   Stopped H L e ..     == the arrays hold the state of the end e, with its rounds and its failing checks
+--   Ran                  == what the rounds from the arrays' state on leave
+-- Levels are kept as in Levels.antt. Assumes nothing.
+use mathlib.Core.Path.{_≡_}
+use mathlib.Core.List.{List}
+use Prim.Native.Nat.{ℕ, _*_, _≤_, _<_}
+use lib.IntN.{natAbs}
+use lib.ListN.{length}
+use Rattle.counting.specs.Places.{at}
+use Rattle.matrix.specs.Code.{Matrix, Word, failing}
+use Rattle.matrix.specs.Reading.{Accepted}
+use Rattle.iterative_tally.specs.Parities.{Retallied}
+use Rattle.iterative_rounds.specs.Rounds.{State, state, End, endOf}
+use Rattle.iterative_levels.specs.Levels.{biased, unbiased, Moved}
+
+unfoldable pub stateOf : ℕ → List ℕ → List ℕ → State
+stateOf L z x = state (at z) (unbiased L x)
+
+pub record Holds (n L : ℕ) (z x : List ℕ) (s : State) : Type 0 where
+  pub long-word : length z ≡ 1023
+  pub long-levels : length x ≡ 1023
+  pub word : (j : ℕ) → j < n → at z j ≡ s .z j
+  pub bit : (j : ℕ) → j < n → s .z j < 2
+  pub levels : (j : ℕ) → j < n → at x j ≡ biased L (s .R j)
+  pub within : (j : ℕ) → j < n → natAbs (s .R j) ≤ L
+
+pub record Ready (H : Matrix) (L : ℕ) (z x : List ℕ) : Type 0 where
+  pub matrix : Accepted H
+  pub largest : L ≤ 127
+  pub long-word : length z ≡ 1023
+  pub long-levels : length x ≡ 1023
+  pub word : Word H (at z)
+  pub within : (j : ℕ) → j < H .n → at x j ≤ 2 * L
+
+-- bits z and levels x by the votes v, then the parities p′ and the votes v′ of the new bits, f of whose checks fail
+pub record Rounded (H : Matrix) (L : ℕ) (v z x z′ x′ p′ v′ : List ℕ) (f : ℕ) : Type 0 where
+  pub moved : Moved v (H .n) (H .gamma) L (2 * L) z x z′ x′
+  pub tallied : Retallied H (at z′) p′ v′ f
+
+-- the arrays hold the state at the end e, k and f are its rounds and its failing checks
+pub record Stopped (H : Matrix) (L : ℕ) (e : End) (z x : List ℕ) (k f : ℕ) : Type 0 where
+  pub holds : Holds (H .n) L z x (e .last)
+  pub rounds : k ≡ e .k
+  pub fails : f ≡ failing H (e .last .z)
+
+abbrev pub Ran : Matrix → ℕ → ℕ → List ℕ → List ℕ → List ℕ → List ℕ → ℕ → ℕ → Type 0
+Ran H L limit z x z′ x′ k f = Stopped H L (endOf H L 0 limit (stateOf L z x)) z′ x′ k f

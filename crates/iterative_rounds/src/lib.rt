@@ -1,0 +1,82 @@
+// Rounds of reliability-based iterative majority-logic decoding: one round, and rounds until they end.
+// Rests on `iterative_levels`, `iterative_tally` and `majority_votes`. Document 01: "Iterative voting", steps 2 to 6.
+use majority_votes::Stop;
+use matrix_check::Shape;
+ghost use Rattle.counting.specs.Places.{at};
+ghost use Rattle.matrix.specs.Shapes.{matrixOf};
+ghost use Rattle.matrix_index.specs.Index.{Indexed};
+ghost use Rattle.iterative_tally.specs.Parities.{Parities};
+ghost use Rattle.iterative_rounds.specs.Runs.{Ready, Rounded, Ran};
+
+// One round, steps 4 to 6: bits and levels by the votes of the old bits, then the votes of the new ones.
+// How many checks fail is asked next, so it is counted with the votes.
+fn round(
+    shape: Shape,
+    list: &[u16],
+    index: &[u16],
+    middle: u8,
+    bits: &mut [u8; 1023],
+    levels: &mut [u8; 1023],
+    parity: &mut [u8; 1023],
+    votes: &mut [u8; 1023],
+) -> u16
+    requires { ⌜ Ready (matrixOf shape (now list)) middle (now bits) (now levels) ⌝ }
+    requires { ⌜ Indexed (matrixOf shape (now list)) (now index) × Parities (matrixOf shape (now list)) (at (now bits)) (now parity) ⌝ }
+    ensures { λ r. ⌜ Rounded (matrixOf shape (now (list .entry))) middle (now (votes .entry)) (now (bits .entry)) (now (levels .entry)) (now (bits .exit)) (now (levels .exit)) (now (parity .exit)) (now (votes .exit)) r ⌝ }
+{
+    let n = shape.n as usize;
+    let gamma = shape.gamma;
+    let top = 2 * (middle as u16);
+    let before = *bits;
+    iterative_levels::update(votes, n, gamma, middle, top, bits, levels);
+    iterative_tally::retally(shape, list, index, &before, bits, parity, votes)
+}
+
+// Rounds until no check fails or the limit is reached. Only this repository's crates call it, after asking the refusals.
+// The parities of a word of zeros are 0, so that the first bits are tallied as those of any round.
+pub fn run(
+    shape: Shape,
+    list: &[u16],
+    index: &[u16],
+    limit: u16,
+    middle: u8,
+    bits: &mut [u8; 1023],
+    levels: &mut [u8; 1023],
+) -> Stop
+    requires { ⌜ Ready (matrixOf shape (now list)) middle (now bits) (now levels) × Indexed (matrixOf shape (now list)) (now index) ⌝ }
+    ensures { λ r. ⌜ Ran (matrixOf shape (now (list .entry))) middle limit (now (bits .entry)) (now (levels .entry)) (now (bits .exit)) (now (levels .exit)) (r .rounds) (r .failing) ⌝ }
+{
+    let zeros = [0u8; 1023];
+    let mut parity = [0u8; 1023];
+    let mut votes = [0u8; 1023];
+    let mut failing = iterative_tally::retally(
+        shape,
+        list,
+        index,
+        &zeros,
+        bits,
+        &mut parity,
+        &mut votes,
+    );
+    let mut k: u16 = 0;
+    while k < limit {
+        if failing == 0 {
+            return Stop {
+                rounds: k,
+                failing: 0,
+            };
+        }
+        failing = round(
+            shape,
+            list,
+            index,
+            middle,
+            bits,
+            levels,
+            &mut parity,
+            &mut votes,
+        );
+        k += 1;
+    }
+    Stop { rounds: k, failing }
+}

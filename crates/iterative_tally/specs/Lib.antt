@@ -1,0 +1,2 @@
+-- What the contracts of `iterative_tally` cite.
+pub mod Parities

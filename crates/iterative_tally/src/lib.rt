@@ -1,0 +1,164 @@
+// The votes of a word that follows another one: the parities of the checks are kept, and only those of flipped bits are turned over.
+// Rests on `matrix_index`, `majority_votes` and `matrix_check`. Document 01: "Iterative voting", steps 2 and 5.
+use matrix_check::Shape;
+ghost use Prim.Native.Nat.{_*_, _≤_, _<_};
+ghost use mathlib.Core.Path.{_≡_};
+ghost use lib.ListN.{length};
+ghost use Rattle.counting.specs.Places.{at, among};
+ghost use Rattle.matrix.specs.Code.{Word};
+ghost use Rattle.matrix.specs.Reading.{Accepted};
+ghost use Rattle.matrix.specs.Shapes.{matrixOf};
+ghost use Rattle.syndrome.specs.Places.{Part, Checks, Places};
+ghost use Rattle.matrix_index.specs.Index.{Indexed};
+ghost use Rattle.iterative_tally.specs.Parities.{Bits, Turned, turns, flips, Columns, RowParities, Parities, Retallied};
+
+// Turns over the parity at each of `count` row numbers of the index.
+fn turn_checks(index: &[u16], from: usize, count: usize, parity: &mut [u8; 1023])
+    requires { ⌜ Part (now index) from count × Bits (now parity) ⌝ }
+    ensures { λ _. ⌜ Turned (among (now (index .entry)) from count) (now (parity .entry)) (now (parity .exit)) ⌝ }
+{
+    let mut k = 0;
+    while k < count {
+        let i = index[from + k] as usize;
+        parity[i] = parity[i] ^ 1;
+        k += 1;
+    }
+}
+
+// The same where a bit was a and is b: nothing, if it stays.
+fn turn_bit(index: &[u16], from: usize, count: usize, a: u8, b: u8, parity: &mut [u8; 1023])
+    requires { ⌜ Part (now index) from count × Bits (now parity) ⌝ }
+    ensures { λ _. ⌜ Turned (turns (now (index .entry)) from count a b) (now (parity .entry)) (now (parity .exit)) ⌝ }
+{
+    if a == b {
+        return;
+    }
+    turn_checks(index, from, count, parity);
+}
+
+// The same for all n bits.
+fn turn_flipped(
+    index: &[u16],
+    n: usize,
+    gamma: usize,
+    before: &[u8; 1023],
+    bits: &[u8; 1023],
+    parity: &mut [u8; 1023],
+)
+    requires { ⌜ Columns (now index) n gamma × Bits (now parity) ⌝ }
+    ensures { λ _. ⌜ Turned (flips (now (index .entry)) gamma (at (now (before .entry))) (at (now (bits .entry))) n) (now (parity .entry)) (now (parity .exit)) ⌝ }
+{
+    let mut j = 0;
+    while j < n {
+        turn_bit(index, j * gamma, gamma, before[j], bits[j], parity);
+        j += 1;
+    }
+}
+
+// Lists the rows whose parity is 1 at the front of `rows`, and says how many they are.
+// Each row is written and then counted by its parity, so that no branch is guessed wrong.
+fn list_odd(m: usize, parity: &[u8; 1023], rows: &mut [u16]) -> usize
+    requires { ⌜ (m ≤ 1023) × Bits (now parity) × (length (now rows) ≡ 1023) ⌝ }
+    ensures { λ r. ⌜ Places (at (now (parity .entry))) m (now (rows .exit)) r ⌝ }
+{
+    let mut t = 0;
+    let mut i = 0;
+    while i < m {
+        rows[t] = i as u16;
+        t += parity[i] as usize;
+        i += 1;
+    }
+    t
+}
+
+// The parity of each of m rows of the list.
+fn parities(list: &[u16], m: usize, rho: usize, bits: &[u8; 1023], parity: &mut [u8; 1023])
+    requires { ⌜ Checks (now list) m rho (at (now bits)) × Bits (now parity) ⌝ }
+    ensures { λ _. ⌜ RowParities (now (list .entry)) m rho (at (now (bits .entry))) (now (parity .exit)) ⌝ }
+{
+    let mut i = 0;
+    while i < m {
+        parity[i] = syndrome::row_parity(list, i * rho, rho, bits);
+        i += 1;
+    }
+}
+
+// The same, with the loop over a row's entries laid out for each of the smallest row weights.
+fn parities_by_weight(
+    list: &[u16],
+    m: usize,
+    rho: usize,
+    bits: &[u8; 1023],
+    parity: &mut [u8; 1023],
+)
+    requires { ⌜ Checks (now list) m rho (at (now bits)) × Bits (now parity) ⌝ }
+    ensures { λ _. ⌜ RowParities (now (list .entry)) m rho (at (now (bits .entry))) (now (parity .exit)) ⌝ }
+{
+    if rho == 3 {
+        parities(list, m, 3, bits, parity);
+        return;
+    }
+    if rho == 4 {
+        parities(list, m, 4, bits, parity);
+        return;
+    }
+    if rho == 5 {
+        parities(list, m, 5, bits, parity);
+        return;
+    }
+    if rho == 6 {
+        parities(list, m, 6, bits, parity);
+        return;
+    }
+    parities(list, m, rho, bits, parity);
+}
+
+// The parities of the word `before` become those of the word `bits`. Where a column has few rows, all rows are done anew:
+// that costs less than to ask of each bit whether it was flipped.
+fn renew(
+    shape: Shape,
+    list: &[u16],
+    index: &[u16],
+    before: &[u8; 1023],
+    bits: &[u8; 1023],
+    parity: &mut [u8; 1023],
+)
+    requires { ⌜ Accepted (matrixOf shape (now list)) × Indexed (matrixOf shape (now list)) (now index) ⌝ }
+    requires { ⌜ Word (matrixOf shape (now list)) (at (now before)) × Word (matrixOf shape (now list)) (at (now bits)) × Parities (matrixOf shape (now list)) (at (now before)) (now parity) ⌝ }
+    ensures { λ _. ⌜ Parities (matrixOf shape (now (list .entry))) (at (now (bits .entry))) (now (parity .exit)) ⌝ }
+{
+    let n = shape.n as usize;
+    let m = shape.m as usize;
+    let rho = shape.rho as usize;
+    let gamma = shape.gamma as usize;
+    if gamma < 8 {
+        parities_by_weight(list, m, rho, bits, parity);
+        return;
+    }
+    turn_flipped(index, n, gamma, before, bits, parity);
+}
+
+// The votes and the failing checks of the word `bits`, by the parities of the word `before`, which become its own.
+// Only this repository's crates call it, with an accepted matrix and its index.
+pub fn retally(
+    shape: Shape,
+    list: &[u16],
+    index: &[u16],
+    before: &[u8; 1023],
+    bits: &[u8; 1023],
+    parity: &mut [u8; 1023],
+    votes: &mut [u8; 1023],
+) -> u16
+    requires { ⌜ Accepted (matrixOf shape (now list)) × Indexed (matrixOf shape (now list)) (now index) ⌝ }
+    requires { ⌜ Word (matrixOf shape (now list)) (at (now before)) × Word (matrixOf shape (now list)) (at (now bits)) × Parities (matrixOf shape (now list)) (at (now before)) (now parity) ⌝ }
+    ensures { λ r. ⌜ Retallied (matrixOf shape (now (list .entry))) (at (now (bits .entry))) (now (parity .exit)) (now (votes .exit)) r ⌝ }
+{
+    let m = shape.m as usize;
+    let rho = shape.rho as usize;
+    let mut rows = [0u16; 1023];
+    renew(shape, list, index, before, bits, parity);
+    let count = list_odd(m, parity, &mut rows);
+    *votes = [0u8; 1023];
+    majority_votes::add_rows(list, rho, &rows, count, votes);
+    count as u16
+}

@@ -1,0 +1,2 @@
+-- What the contracts of `majority_flips` cite.
+pub mod Flips

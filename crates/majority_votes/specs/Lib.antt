@@ -1,0 +1,2 @@
+-- What the contracts of `majority_votes` cite.
+pub mod Tallies

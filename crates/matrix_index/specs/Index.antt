@@ -1,0 +1,42 @@
+-- The rows of each column, beside the list.
+--   Indexed H x              == x holds the rows of each column, gamma of them from j * gamma on
+--   before H i j             == the ones of column j in the rows before row i
+--   within H i k j           == the ones of column j among the first k entries of row i
+--   placed H i j r           == how often row r stands at column j once the rows before row i are placed
+--   placing H i k j r        == what the first k entries of row i add to that
+--   Filled H i k counts x    == x after the rows before row i and the first k entries of row i, so many at each column
+-- Assumes nothing.
+use Prim.Native.Nat.{ℕ, _+_, _*_, _<_}
+use mathlib.Core.Path.{_≡_}
+use mathlib.Core.List.{List}
+use lib.ListN.{length}
+use Rattle.counting.specs.Sum.{sum, same}
+use Rattle.counting.specs.Places.{at, among}
+use Rattle.matrix.specs.Code.{Matrix, entry, has}
+
+-- each row stands at each of its columns, and no other does
+pub record Indexed (H : Matrix) (x : List ℕ) : Type 0 where
+  pub long : length x ≡ 32736
+  pub below : (j q : ℕ) → j < H .n → q < H .gamma → at x (j * H .gamma + q) < H .m
+  pub each : (j i : ℕ) → j < H .n → i < H .m → among x (j * H .gamma) (H .gamma) i ≡ has H i j
+
+-- ---- the index while it is filled
+
+unfoldable pub before : Matrix → ℕ → ℕ → ℕ
+before H i j = sum i (λ r. has H r j)
+
+unfoldable pub within : Matrix → ℕ → ℕ → ℕ → ℕ
+within H i k j = sum k (λ q. same (entry H i q) j)
+
+unfoldable pub placed : Matrix → ℕ → ℕ → ℕ → ℕ
+placed H i j r = sum i (λ p. same p r * has H p j)
+
+unfoldable pub placing : Matrix → ℕ → ℕ → ℕ → ℕ → ℕ
+placing H i k j r = sum k (λ q. same i r * same (entry H i q) j)
+
+pub record Filled (H : Matrix) (i k : ℕ) (counts x : List ℕ) : Type 0 where
+  pub long-counts : length counts ≡ 1023
+  pub long : length x ≡ 32736
+  pub count : (j : ℕ) → at counts j ≡ before H i j + within H i k j
+  pub each : (j r : ℕ) → among x (j * H .gamma) (at counts j) r ≡ placed H i j r + placing H i k j r
+  pub below : (j q : ℕ) → q < at counts j → at x (j * H .gamma + q) < H .m

@@ -1,0 +1,2 @@
+-- What the contracts of `matrix_index` cite.
+pub mod Index

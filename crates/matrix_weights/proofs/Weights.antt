@@ -1,0 +1,36 @@
+-- Laws of the walk: an entry that is not bad is a column, and the tally of the whole list has the weights. Assumes nothing.
+use mathlib.Core.Path.{_≡_, sym, ap, _∙_}
+use mathlib.Core.Bool.{false, not}
+use mathlib.Core.List.{List}
+use mathlib.Core.Logic.{inl}
+use Prim.Native.Nat.{ℕ, _*_, _≤_, _<_}
+use native.Mathlib.Decide.{decLt}
+use native.Mathlib.Omega.{arith}
+use lib.Dec.{eqb}
+use lib.ListN.{length, getD}
+use Rattle.counting.specs.Sum.{sum, same}
+use Rattle.counting.specs.Search.{first}
+use Rattle.counting.proofs.Searches.{first-cong}
+use Rattle.matrix.specs.Code.{Matrix, weight}
+use Rattle.matrix.specs.Check.{badEntry, badWeight}
+use Rattle.matrix.proofs.Rows.{weight-flat}
+use Rattle.matrix.proofs.Reading.{entry-clear}
+use Rattle.matrix.specs.Tallies.{Tally}
+use Rattle.matrix_weights.specs.Walking.{listAt, offWeight}
+
+module _ (H : Matrix) where
+  -- an entry that is not bad is a column
+  pub good-below : (p : ℕ) → badEntry H p ≡ false → listAt H p < H .n
+  good-below p e =
+      elim (decLt (listAt H p) (H .n)) [ yes l ↦ l | no f ↦ absurd (entry-clear H p e (inl (omega arith))) ]
+
+  -- the tally of the whole list has the weights
+  pub tally-weight : (v : List ℕ) → length (H .list) ≡ H .m * H .rho → Tally (listAt H) (length (H .list)) v → (j : ℕ) → j < 1023 → getD v j 0 ≡ weight H j
+  tally-weight v whole t j l = t .each j l ∙ ap (λ (k : ℕ). sum k (λ p. same (listAt H p) j)) whole ∙ sym (weight-flat H j)
+
+  pub tally-off : (v : List ℕ) → H .n ≤ 1023 → length (H .list) ≡ H .m * H .rho → Tally (listAt H) (length (H .list)) v
+      → first (offWeight (H .gamma) v) (H .n) ≡ first (badWeight H) (H .n)
+  unfolding offWeight badWeight
+  tally-off v most whole t =
+      first-cong (offWeight (H .gamma) v) (badWeight H) (H .n)
+      (λ j l. ap (λ (x : ℕ). not (eqb x (H .gamma))) (tally-weight v whole t j (omega arith)))

@@ -1,0 +1,81 @@
+// Refusals 3 and 4: one pass over the list for the first bad entry, which counts the columns' weights, and the first weight that is off.
+// Rests on `matrix`. Document 01: "Refused for the input" 3 and 4.
+use matrix::Shape;
+ghost use mathlib.Core.Path.{_≡_};
+ghost use Prim.Native.Nat.{_+_, _%_, _<_, _≤_};
+ghost use lib.ListN.{length, getD, set};
+ghost use Rattle.counting.specs.Search.{first};
+ghost use Rattle.matrix.specs.Check.{badEntry};
+ghost use Rattle.matrix.specs.Ordered.{Sized};
+ghost use Rattle.matrix.specs.Shapes.{matrixOf};
+ghost use Rattle.matrix.specs.Tallies.{Tally};
+ghost use Rattle.matrix_weights.specs.Walking.{listAt, Walked, offWeight};
+
+// The place in its row of the entry after one at place k.
+fn next_place(k: usize, rho: usize) -> usize
+    requires { ⌜ k < rho ⌝ }
+    ensures { λ r. ⌜ r ≡ (k + 1) % rho ⌝ }
+{
+    if k + 1 == rho { 0 } else { k + 1 }
+}
+
+// Whether entry p, at place k of its row, is not below n or not above the one before it.
+fn bad_entry(shape: Shape, list: &[u16], p: usize, k: usize) -> bool
+    requires { ⌜ (p < length (now list)) × (k ≡ p % (shape .rho)) ⌝ }
+    ensures { λ r. ⌜ r ≡ badEntry (matrixOf shape (now (list .entry))) p ⌝ }
+{
+    let n = shape.n;
+    let c = list[p];
+    if n <= c {
+        return true;
+    }
+    if k == 0 {
+        return false;
+    }
+    c <= list[p - 1]
+}
+
+// Counts column c once more.
+fn count(tally: &mut [u16; 1023], c: usize)
+    requires { ⌜ (c < 1023) × (getD (now tally) c 0 < 65535) ⌝ }
+    ensures { λ _. ⌜ now (tally .exit) ≡ set (now (tally .entry)) c (getD (now (tally .entry)) c 0 + 1) ⌝ }
+{
+    tally[c] += 1;
+}
+
+// The first bad entry, else the list's length. The same pass counts the columns' weights.
+// Only this repository's crates call it, after asking refusals 1 and 2.
+pub fn walk(shape: Shape, list: &[u16], weights: &mut [u16; 1023]) -> usize
+    requires { ⌜ Sized (matrixOf shape (now list)) × Tally (listAt (matrixOf shape (now list))) 0 (now weights) ⌝ }
+    ensures { λ r. ⌜ Walked (matrixOf shape (now (list .entry))) (now (weights .exit)) r ⌝ }
+{
+    let rho = shape.rho as usize;
+    let mut p = 0;
+    let mut k = 0;
+    while p < list.len() {
+        if bad_entry(shape, list, p, k) {
+            return p;
+        }
+        count(weights, list[p] as usize);
+        k = next_place(k, rho);
+        p += 1;
+    }
+    p
+}
+
+// The first column whose weight is not gamma, else n. Only this repository's crates call it, after asking refusal 1.
+pub fn first_off_weight(shape: Shape, weights: &[u16; 1023]) -> usize
+    requires { ⌜ shape .n ≤ 1023 ⌝ }
+    ensures { λ r. ⌜ r ≡ first (offWeight (shape .gamma) (now (weights .entry))) (shape .n) ⌝ }
+{
+    let n = shape.n as usize;
+    let gamma = shape.gamma;
+    let mut j = 0;
+    while j < n {
+        if weights[j] != gamma {
+            return j;
+        }
+        j += 1;
+    }
+    j
+}

@@ -1,3 +1,0 @@
--- What the contracts of `numerals` cite.
-pub mod Numerals
-pub mod Putting

@@ -1,3 +1,0 @@
--- What the contracts of `one_block` cite.
-pub mod Saying
-pub mod Lending

@@ -1,3 +1,0 @@
--- What the contracts of `packed_bits` cite.
-pub mod Packed
-pub mod Steps

@@ -1,0 +1,44 @@
+-- Laws of the pieces: after each, the run can go on, and it comes to its end.
+--   lent-first    == the run begins
+--   fits          == what is wanted fits the input buffer
+--   lent-next     == after a piece the run can go on
+--   rank-next     == and fewer stages are left
+-- Assumes nothing.
+use mathlib.Core.Path.{_≡_, sym, ap, _∙_, subst}
+use mathlib.Core.List.{List}
+use Prim.Native.Nat.{ℕ, _≤_, _<_}
+use native.Mathlib.Omega.{arith}
+use lib.ListN.{length, take}
+use Rattle.program_ends.specs.Stages.{Awaited, wanted, firstReply}
+use Rattle.program_ends.specs.Replies.{Ready, Replied}
+use Rattle.program_ends.proofs.Stages.{wanted-fits, ready-next, rank, rank-falls}
+use Rattle.program.specs.Pieces.{Lent, Piece}
+
+-- the run begins
+pub lent-first : {a : Awaited} {w e : ℕ} {l input out : List ℕ} → Replied firstReply a w e out → length l ≡ 32736 → length input ≡ 65536 → length out ≡ 65536
+    → Lent a w l input out
+lent-first r x y z =
+    record { ready = subst Ready (sym (r .awaited)) tt; want = r .want ∙ ap wanted (sym (r .awaited)); list = x; long = y; room = z }
+
+module _ {a : Awaited} {w : ℕ} {l input out : List ℕ} (b : Lent a w l input out) where
+  -- what is wanted fits the input buffer
+  pub fits : w ≤ length input
+  fits = omega (arith, b .want, b .long, wanted-fits a (b .ready))
+
+  module _ {a′ : Awaited} {w′ e : ℕ} {input′ out′ : List ℕ} (p : Piece a input′ a′ w′ e out′) where
+    -- after a piece the run can go on
+    pub lent-next : {l′ : List ℕ} → length l′ ≡ length l → length input′ ≡ length input → length out′ ≡ length out → Lent a′ w′ l′ input′ out′
+    lent-next x y z =
+        record {
+          ready = subst Ready (sym (p .reply .awaited)) (ready-next a (take (p .got) input′) (b .ready));
+          want = p .reply .want ∙ ap wanted (sym (p .reply .awaited));
+          list = x ∙ b .list;
+          long = y ∙ b .long;
+          room = z ∙ b .room;
+        }
+
+    -- and fewer stages are left
+    pub rank-next : 0 < w → rank a′ < rank a
+    rank-next h =
+        let some : 0 < wanted a = omega (arith, b .want) in
+        omega (arith, ap rank (p .reply .awaited), rank-falls a (take (p .got) input′) (b .ready) some)

@@ -1,0 +1,66 @@
+-- `program::read_and_reply` meets its contract: what was read is replied to. Assumes nothing.
+use mathlib.Core.Path.{sym}
+use native.Mathlib.Omega.{arith}
+use lib.ListN.{length-take}
+use lib.Seq.{length-take-le}
+use Rattle.program.proofs.Pieces.{fits}
+use borrow.Author.Needs.{needs}
+use Rattle.program.proofs.read_and_reply.Statement.{statement}
+use Rattle.program.proofs.read_and_reply.Tie as tie
+
+read-requires : tie.Need-read-requires
+read-requires c κs = fits (c .before .before .before .before .pre)
+
+slice-reshare-prefix-advance : tie.Need-slice-reshare-prefix-advance
+slice-reshare-prefix-advance c =
+    let r = c .before .before .before in
+    omega (arith, r .read .ensures .0, r .read .kept, fits (r .before .before .before .before .before .pre))
+
+slice-aggregate-advance : tie.Need-slice-aggregate-advance
+slice-aggregate-advance c =
+    let r = c .before .before .before .before in
+    sym (length-take-le (r .read .result) (r .read .last .0)
+    (omega (arith, r .read .ensures .0, r .read .kept, fits (r .before .before .before .before .before .pre))))
+
+advance-requires : tie.Need-advance-requires
+advance-requires c κs =
+    let r = c .before .before .before .before .before in
+    let s = c .before .before .before .before .before .before .before .before .before .before in
+    record {
+      ready = s .pre .ready;
+      came = omega (arith, r .read .ensures .0, s .pre .want, length-take (r .read .result) (r .read .last .0));
+      list = s .pre .list;
+      room = s .pre .room;
+    }
+
+print-requires : tie.Need-print-requires
+print-requires c κs = search needs
+
+same-length : tie.Need-same-length
+same-length c = search needs
+
+same-length-2 : tie.Need-same-length-2
+same-length-2 c = search needs
+
+same-length-3 : tie.Need-same-length-3
+same-length-3 c = search needs
+
+returns : tie.Need-returns
+returns c =
+    let r = c .before .before .before .before .before .before .before .before .before .before .before .before in
+    let s = c .before .before .before .before .before .before .before .before .before .before .before .before .before .before .before .before .before in
+    record { got = r .read .result; few = omega (arith, r .read .ensures .0, s .pre .want); reply = c .before .before .before .before .before .before .advance .ensures }
+
+pub read-and-reply-spec : {M : Type 1} → statement M
+read-and-reply-spec =
+    tie.close
+    (tie.spec
+    read-requires
+    slice-reshare-prefix-advance
+    slice-aggregate-advance
+    advance-requires
+    print-requires
+    same-length
+    same-length-2
+    same-length-3
+    returns)

@@ -1,0 +1,55 @@
+-- `program::until_done` meets its contract. The invariant: what is awaited can be read; with each piece fewer stages are left. Assumes nothing.
+use native.Mathlib.Omega.{arith}
+use Rattle.program_ends.specs.Replies.{awaitedOf}
+use Rattle.program_ends.proofs.Stages.{rank}
+use Rattle.program.specs.Pieces.{Lent}
+use Rattle.program.proofs.Pieces.{lent-next, rank-next}
+use Rattle.program.proofs.until_done.Statement.{statement}
+use Rattle.program.proofs.until_done.Tie as tie
+
+abbrev Inv-loop : tie.InvT-loop
+Inv-loop list₀ input₀ out₀ stage₀ want₀ list input out stage want = Lent (awaitedOf stage list) want list input out
+
+abbrev μ-loop : tie.MeasureT-loop
+μ-loop list₀ input₀ out₀ stage₀ want₀ list input out stage want = rank (awaitedOf stage list)
+
+loop-holds : tie.Need-loop-holds Inv-loop μ-loop
+loop-holds c = c .before .before .before .pre
+
+read-and-reply-requires : tie.Need-read-and-reply-requires Inv-loop μ-loop
+read-and-reply-requires c κs = c .before .before .before .before .loop .inv
+
+loop-less : tie.Need-loop-less Inv-loop μ-loop
+loop-less c = rank-next (c .before .before .before .before .before .before .before .before .before .before .before .loop .inv) (c .before .before .before .before .before .before .read-and-reply .ensures) (omega arith)
+
+loop-again : tie.Need-loop-again Inv-loop μ-loop
+loop-again c =
+    let r = c .before .before .before .before .before .before .read-and-reply in
+    lent-next (c .before .before .before .before .before .before .before .before .before .before .before .loop .inv) (r .ensures) (r .kept .1 .1 .0) (r .kept .1 .1 .1 .0) (r .kept .1 .1 .1 .1 .0)
+
+same-length : tie.Need-same-length Inv-loop μ-loop
+same-length c = omega arith
+
+same-length-2 : tie.Need-same-length-2 Inv-loop μ-loop
+same-length-2 c = omega arith
+
+same-length-3 : tie.Need-same-length-3 Inv-loop μ-loop
+same-length-3 c = omega arith
+
+returns : tie.Need-returns Inv-loop μ-loop
+returns c = omega arith
+
+pub until-done-spec : {M : Type 1} → statement M
+until-done-spec =
+    tie.close
+    (tie.spec
+    Inv-loop
+    μ-loop
+    loop-holds
+    read-and-reply-requires
+    loop-less
+    loop-again
+    same-length
+    same-length-2
+    same-length-3
+    returns)

@@ -1,0 +1,50 @@
+// The program: the run over standard input and output.
+// Rests on `program_ends`, which decides, and on `program_io`, which reads and writes: what comes and goes is outside any contract.
+// Document 01: "Worked by hand", the paragraph on the program.
+use program_ends::Next;
+use program_ends::Stage;
+ghost use mathlib.Core.Path.{_≡_};
+ghost use Rattle.program_ends.specs.Replies.{awaitedOf};
+ghost use Rattle.program.specs.Pieces.{Lent, Piece};
+
+// Reads what a stage wants, and prints the reply.
+fn read_and_reply(
+    stage: Stage,
+    want: usize,
+    list: &mut [u16],
+    input: &mut [u8],
+    out: &mut [u8],
+) -> Next
+    requires { ⌜ Lent (awaitedOf stage (now list)) want (now list) (now input) (now out) ⌝ }
+    ensures { λ r. ⌜ Piece (awaitedOf stage (now (list .entry))) (now (input .exit)) (awaitedOf (r .stage) (now (list .exit))) (r .want) (r .end) (now (out .exit)) ⌝ }
+{
+    let got = program_io::read(input, want);
+    let next = program_ends::advance(stage, list, &input[..got], out);
+    program_io::print(out, next.end);
+    next
+}
+
+// Reads and prints until nothing more is wanted. Answers how many bytes that is: none.
+fn until_done(first: Next, list: &mut [u16], input: &mut [u8], out: &mut [u8]) -> usize
+    requires { ⌜ Lent (awaitedOf (first .stage) (now list)) (first .want) (now list) (now input) (now out) ⌝ }
+    ensures { λ r. ⌜ r ≡ 0 ⌝ }
+{
+    let mut stage = first.stage;
+    let mut want = first.want;
+    while 0 < want {
+        let next = read_and_reply(stage, want, list, input, out);
+        stage = next.stage;
+        want = next.want;
+    }
+    want
+}
+
+// The program.
+pub fn run() {
+    let mut list = [0u16; 32736];
+    let mut input = io::large_buffer();
+    let mut out = io::large_buffer();
+    let first = program_ends::first(&mut out);
+    program_io::print(&out, first.end);
+    until_done(first, &mut list, &mut input, &mut out);
+}

@@ -1,0 +1,65 @@
+// One block of samples, as functions on slices: its answer and word, and its line.
+// Rests on `byte_numbers`, `program_input`, `iterative_core` and `program_text`. Document 01: "Worked by hand", the paragraph on the program.
+use answers::Answer;
+use answers::Refusal;
+use matrix_check::Shape;
+use quantiser::Setting;
+ghost use Rattle.answers.specs.Answers.{saidOf};
+ghost use Rattle.matrix.specs.Shapes.{matrixOf};
+ghost use Rattle.quantiser_settings.specs.Settings.{choiceOf};
+ghost use Rattle.program_numerals.specs.Putting.{PutWithin};
+ghost use Rattle.matrix_index.specs.Index.{Indexed};
+ghost use Rattle.program_block.specs.Lending.{Whole, Answered, Printable};
+ghost use Rattle.program_block.specs.Saying.{blockLine};
+
+// The answer of a block, and its word at the front of `word`. Only this repository's crates call it, after asking refusals 1 to 6.
+pub fn decode(
+    shape: Shape,
+    list: &[u16],
+    index: &[u16],
+    setting: Setting,
+    bytes: &[u8],
+    word: &mut [u8],
+) -> Answer
+    requires { ⌜ Whole (matrixOf shape (now list)) (choiceOf setting) (now bytes) (now word) × Indexed (matrixOf shape (now list)) (now index) ⌝ }
+    ensures { λ r. ⌜ Answered (matrixOf shape (now (list .entry))) (choiceOf setting) (now (bytes .entry)) (saidOf r) (now (word .entry)) (now (word .exit)) ⌝ }
+{
+    let n = shape.n as usize;
+    let mut xs = [0f32; 1023];
+    let place = byte_numbers::samples(bytes, &mut xs);
+    if place < n {
+        return Answer::Refused(Refusal::Sample(place as u16));
+    }
+    let mut levels = [0i8; 1023];
+    let report = iterative_core::iterative_accepted(
+        shape,
+        list,
+        index,
+        setting,
+        &xs[..n],
+        word,
+        &mut levels,
+    );
+    Answer::Done(report)
+}
+
+// The line of one block. Only this repository's crates call it, after asking refusals 1 to 6.
+pub fn block(
+    shape: Shape,
+    list: &[u16],
+    index: &[u16],
+    setting: Setting,
+    number: u16,
+    bytes: &[u8],
+    out: &mut [u8],
+    at: usize,
+) -> usize
+    requires { ⌜ Printable (matrixOf shape (now list)) (choiceOf setting) (now bytes) at (now out) × Indexed (matrixOf shape (now list)) (now index) ⌝ }
+    ensures { λ r. ⌜ PutWithin 289 (blockLine (matrixOf shape (now (list .entry))) (choiceOf setting) number (now (bytes .entry))) at (now (out .entry)) (now (out .exit)) r ⌝ }
+{
+    let n = shape.n as usize;
+    let mut word = [0u8; 128];
+    let answer = decode(shape, list, index, setting, bytes, &mut word);
+    let size = (n + 7) / 8;
+    program_text::put_block(out, at, number, answer, &word[..size])
+}

@@ -1,0 +1,131 @@
+-- Laws of the replies: the text of a reply, and the reply to the bytes that came.
+--   text-alone            == a text put at the front of the buffer is all that stands before its end
+--   replied-as            == an equal reply
+--   sizes-short, sizes-refused, sizes-fit   == the reply to the sizes
+--   list-short, list-whole                  == the reply to the list
+--   setting-short, setting-whole            == the reply to the setting
+--   blocks-last, blocks-more                == what is awaited after blocks
+--   entries-front         == the list at the front of the array
+--   opened-reply          == a run that begins, by what was found
+--   asked-at, replied-at  == a stage by its case
+--   countable             == the blocks that came may be printed
+-- Assumes nothing.
+use mathlib.Core.Path.{_≡_, sym, ap, _∙_}
+use mathlib.Core.Bool.{true, false}
+use mathlib.Core.List.{List, []}
+use Prim.Native.Nat.{ℕ, suc, _+_, _*_, _/_, _≤_, _<_}
+use native.Mathlib.Nat.{suc-mul, div-lt-iff-lt-mul}
+use native.Mathlib.Omega.{arith}
+use borrow.Author.Tests.{lt-ltb, le-ltb}
+use lib.ListN.{length, take}
+use Rattle.counting.specs.Lists.{over}
+use Rattle.counting.proofs.Writing.{take-over, length-listed}
+use Rattle.byte_numbers.specs.Numbers.{entryIn, entriesIn}
+use Rattle.matrix.specs.Code.{Matrix}
+use Rattle.matrix.specs.Check.{sizesFit}
+use Rattle.quantiser_levels.specs.Samples.{Choice}
+use Rattle.program_numerals.specs.Putting.{PutWithin}
+use Rattle.program_numerals.proofs.Puts.{put-front, put-length}
+use Rattle.program_text.specs.Output.{shortText, refusedText}
+use Rattle.program_input.specs.Input.{matrixIn, choiceIn}
+use Rattle.program_input.specs.Opening.{Opening, opening, openingVerdict, Decodable}
+use Rattle.program_lines.specs.Blocks.{blocksIn, chunkText}
+use Rattle.program_lines.specs.Lending.{Countable}
+use Rattle.program_turns.specs.Turns.{atOnce, bytesAtOnce, AtOnce}
+use Rattle.program_ends.specs.Stages.{Awaited, theList, theSetting, blocksFrom, nothing, withList, Reply, ends, goesOn, openedReply, sizesReply, listReply, settingReply, blocksReply, replyTo}
+use Rattle.program_ends.specs.Replies.{awaitedOf, Asked, Replied}
+use Rattle.program_ends.specs.declared.Stage.{Stage}
+
+-- ---- the text of a reply
+
+-- all that stands before the end of a text at the front
+pub text-alone : {k end : ℕ} {text old new : List ℕ} → PutWithin k text 0 old new end → k ≤ length old → take end new ≡ text
+text-alone p few = put-front (omega (arith, p .within, p .put .ends)) (p .put)
+
+-- which ends within the buffer
+pub text-within : {k end : ℕ} {text old new : List ℕ} → PutWithin k text 0 old new end → k ≤ length old → end ≤ length new
+text-within p few = omega (arith, p .within, put-length (p .put))
+
+-- an equal reply
+pub replied-as : {r t : Reply} {a : Awaited} {w e : ℕ} {out : List ℕ} → r ≡ t → Replied r a w e out → Replied t a w e out
+replied-as q p = rw q at p
+
+-- ---- the reply to the sizes
+
+module _ (bs : List ℕ) where
+  pub sizes-short : length bs < 8 → ends shortText ≡ sizesReply bs
+  unfolding sizesReply
+  sizes-short h = rw (lt-ltb (length bs) 8 h)
+
+  pub sizes-refused : 8 ≤ length bs → sizesFit (matrixIn bs []) ≡ false → ends (refusedText 1 0) ≡ sizesReply bs
+  unfolding sizesReply
+  sizes-refused h e = rw (le-ltb (length bs) 8 h, e)
+
+  pub sizes-fit : 8 ≤ length bs → sizesFit (matrixIn bs []) ≡ true → goesOn (theList (matrixIn bs [])) ≡ sizesReply bs
+  unfolding sizesReply
+  sizes-fit h e = rw (le-ltb (length bs) 8 h, e)
+
+-- ---- to the list and the setting
+
+module _ (H : Matrix) (bs : List ℕ) where
+  pub list-short : length bs < 2 * (H .m * H .rho) → ends shortText ≡ listReply H bs
+  unfolding listReply
+  list-short h = rw (lt-ltb (length bs) (2 * (H .m * H .rho)) h)
+
+  pub list-whole : 2 * (H .m * H .rho) ≤ length bs → goesOn (theSetting (withList H (entriesIn bs))) ≡ listReply H bs
+  unfolding listReply
+  list-whole h = rw (le-ltb (length bs) (2 * (H .m * H .rho)) h)
+
+  pub setting-short : length bs < 7 → ends shortText ≡ settingReply H bs
+  unfolding settingReply
+  setting-short h = rw (lt-ltb (length bs) 7 h)
+
+  pub setting-whole : 7 ≤ length bs → openedReply (opening (openingVerdict H (choiceIn bs)) (choiceIn bs)) H ≡ settingReply H bs
+  unfolding settingReply
+  setting-whole h = rw (le-ltb (length bs) 7 h)
+
+-- ---- to blocks
+
+abbrev pub reply : List ℕ → Awaited → Reply
+reply t a = record { text = t; awaited = a }
+
+module _ (H : Matrix) (S : Choice) (i : ℕ) (bs : List ℕ) where
+  pub blocks-last : length bs < bytesAtOnce (H .n) i → ends (chunkText H S i bs) ≡ blocksReply H S i bs
+  unfolding blocksReply
+  blocks-last h = rw (lt-ltb (length bs) (bytesAtOnce (H .n) i) h)
+
+  pub blocks-more : bytesAtOnce (H .n) i ≤ length bs
+      → reply (chunkText H S i bs) (blocksFrom H S (i + atOnce (H .n) i)) ≡ blocksReply H S i bs
+  unfolding blocksReply
+  blocks-more h = rw (le-ltb (length bs) (bytesAtOnce (H .n) i) h)
+
+-- ---- what is read
+
+-- the list at the front of the array
+pub entries-front : (k : ℕ) (bs old : List ℕ) {new : List ℕ} → new ≡ over (entriesIn bs) old → length bs ≡ 2 * k → take k new ≡ entriesIn bs
+unfolding entriesIn
+entries-front k bs old e h =
+    let half : length bs / 2 ≡ k = omega arith in
+    let long : length (entriesIn bs) ≡ k = length-listed (length bs / 2) (entryIn bs) ∙ half in
+    ap (take k) e ∙ ap (λ (x : ℕ). take x (over (entriesIn bs) old)) (sym long) ∙ take-over (entriesIn bs) old
+
+-- a run that begins, by what was found
+pub opened-reply : (H : Matrix) {o p : Opening} → o ≡ p → {q : Opening} → o ≡ q → openedReply q H ≡ openedReply p H
+opened-reply H e q = ap (λ (x : Opening). openedReply x H) (sym q ∙ e)
+
+-- the blocks that came may be printed
+pub countable : (H : Matrix) (S : Choice) {i k : ℕ} {bs out : List ℕ} → Decodable H S → AtOnce (H .n) i k → length bs ≤ k * (4 * H .n)
+    → length out ≡ 65536 → Countable H S i bs 0 out
+countable H S {i} {k} {bs} d o h e =
+    let some : 0 < 4 * H .n = omega (arith, d .matrix .sizes .n-least) in
+    let few : blocksIn H bs < suc k = div-lt-iff-lt-mul some .1 (rw (suc-mul k (4 * H .n)) (omega (arith, some))) in
+    record { decodable = d; numbers = omega (arith, few, o .numbers); room = omega (arith, few, o .few, e) }
+
+-- ---- a stage by its case
+
+module _ {s t : Stage} (e : s ≡ t) (l bs : List ℕ) {out : List ℕ} where
+  pub asked-at : Asked (awaitedOf s l) l bs out → Asked (awaitedOf t l) l bs out
+  asked-at p = rw e at p
+
+  pub replied-at : {a : Awaited} {w x : ℕ} → Replied (replyTo (awaitedOf t l) bs) a w x out → Replied (replyTo (awaitedOf s l) bs) a w x out
+  replied-at p = rw e p

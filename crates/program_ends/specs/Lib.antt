@@ -1,0 +1,3 @@
+-- What the contracts of `program_ends` cite.
+pub mod Stages
+pub mod Replies

@@ -1,0 +1,178 @@
+// The stages of the run, as functions on slices: what the bytes that came say, what is awaited then, and how the run ends.
+// Rests on `program_turns`, `program_lines`, `program_input`, `byte_numbers` and `program_text`. Nothing here reads or writes.
+// Document 01: "Worked by hand", the paragraph on the program.
+use answers::Refusal;
+use matrix_check::Shape;
+use program_input::Opened;
+use quantiser::Setting;
+ghost use Prim.Native.Nat.{ℕ, _*_, _≤_};
+ghost use mathlib.Core.Path.{_≡_};
+ghost use mathlib.Core.List.{List, []};
+ghost use lib.ListN.{length, take};
+ghost use Rattle.matrix.specs.Shapes.{matrixOf};
+ghost use Rattle.quantiser_settings.specs.Settings.{choiceOf};
+ghost use Rattle.program_ends.specs.Stages.{theList, theSetting, blocksFrom, firstReply, ends, sizesReply, listReply, settingReply, blocksReply, replyTo};
+ghost use Rattle.program_turns.specs.Turns.{bytesAtOnce};
+ghost use Rattle.program_ends.specs.Replies.{awaitedOf, Asked, Replied};
+
+// What the run awaits: with the sizes that it has, the setting, and the number of the next block.
+pub enum Stage {
+    AtSizes,
+    AtList(Shape),
+    AtSetting(Shape),
+    AtBlocks(Shape, Setting, u16),
+    AtEnd,
+}
+
+// What follows: the stage, how many bytes it wants, and where the text in the output buffer ends.
+pub struct Next {
+    pub stage: Stage,
+    pub want: usize,
+    pub end: usize,
+}
+
+// How many entries the list has.
+fn entries(shape: Shape) -> usize
+    requires { ⌜ shape .m * shape .rho ≤ 32736 ⌝ }
+    ensures { λ r. ⌜ r ≡ shape .m * shape .rho ⌝ }
+{
+    (shape.m as usize) * (shape.rho as usize)
+}
+
+// The run begins: the heading, and the sizes are awaited. Only this repository's crates call it, with a large buffer.
+pub fn first(out: &mut [u8]) -> Next
+    requires { ⌜ length (now out) ≡ 65536 ⌝ }
+    ensures { λ r. ⌜ ((l : List ℕ) → Replied firstReply (awaitedOf (r .stage) l) (r .want) (r .end) (now (out .exit))) ⌝ }
+{
+    let end = program_text::put_heading(out, 0);
+    Next {
+        stage: Stage::AtSizes,
+        want: 8,
+        end: end,
+    }
+}
+
+// The run ends with the text that stands before `end`.
+fn ended(out: &[u8], end: usize) -> Next
+    requires { ⌜ end ≤ length (now out) ⌝ }
+    ensures { λ r. ⌜ ((l : List ℕ) → Replied (ends (take end (now (out .entry)))) (awaitedOf (r .stage) l) (r .want) (r .end) (now (out .entry))) ⌝ }
+{
+    Next {
+        stage: Stage::AtEnd,
+        want: 0,
+        end: end,
+    }
+}
+
+// Blocks are awaited, from `number` on, once the text that stands before `end` is printed.
+fn at_blocks(shape: Shape, setting: Setting, number: u16, end: usize) -> Next
+    requires { ⌜ (2 ≤ shape .n) × (shape .n ≤ 1023) ⌝ }
+    ensures { λ r. ⌜ ((l : List ℕ) → awaitedOf (r .stage) l ≡ blocksFrom (matrixOf shape (take (shape .m * shape .rho) l)) (choiceOf setting) number) × (r .want ≡ bytesAtOnce (shape .n) number) × (r .end ≡ end) ⌝ }
+{
+    let n = shape.n as usize;
+    let want = program_turns::at_once(n, number) * (4 * n);
+    Next {
+        stage: Stage::AtBlocks(shape, setting, number),
+        want: want,
+        end: end,
+    }
+}
+
+// The sizes came, or the input ended.
+fn after_sizes(bytes: &[u8], out: &mut [u8]) -> Next
+    requires { ⌜ length (now out) ≡ 65536 ⌝ }
+    ensures { λ r. ⌜ ((l : List ℕ) → Replied (sizesReply (now (bytes .entry))) (awaitedOf (r .stage) l) (r .want) (r .end) (now (out .exit))) ⌝ }
+{
+    if bytes.len() < 8 {
+        let end = program_text::put_short(out, 0);
+        return ended(out, end);
+    }
+    let shape = program_input::sizes(bytes);
+    if program_input::sizes_refused(shape) {
+        let end = program_text::put_refused(out, 0, Refusal::Sizes);
+        return ended(out, end);
+    }
+    let want = 2 * entries(shape);
+    Next {
+        stage: Stage::AtList(shape),
+        want: want,
+        end: 0,
+    }
+}
+
+// The list came, or the input ended.
+fn after_list(shape: Shape, list: &mut [u16], bytes: &[u8], out: &mut [u8]) -> Next
+    requires { ⌜ Asked (theList (matrixOf shape [])) (now list) (now bytes) (now out) ⌝ }
+    ensures { λ r. ⌜ Replied (listReply (matrixOf shape []) (now (bytes .entry))) (awaitedOf (r .stage) (now (list .exit))) (r .want) (r .end) (now (out .exit)) ⌝ }
+{
+    let want = 2 * entries(shape);
+    if bytes.len() < want {
+        let end = program_text::put_short(out, 0);
+        return ended(out, end);
+    }
+    byte_numbers::entries(bytes, list);
+    Next {
+        stage: Stage::AtSetting(shape),
+        want: 7,
+        end: 0,
+    }
+}
+
+// The setting came, or the input ended.
+fn after_setting(shape: Shape, list: &[u16], bytes: &[u8], out: &mut [u8]) -> Next
+    requires { ⌜ Asked (theSetting (matrixOf shape (take (shape .m * shape .rho) (now list)))) (now list) (now bytes) (now out) ⌝ }
+    ensures { λ r. ⌜ Replied (settingReply (matrixOf shape (take (shape .m * shape .rho) (now (list .entry)))) (now (bytes .entry))) (awaitedOf (r .stage) (now (list .entry))) (r .want) (r .end) (now (out .exit)) ⌝ }
+{
+    if bytes.len() < 7 {
+        let end = program_text::put_short(out, 0);
+        return ended(out, end);
+    }
+    let count = entries(shape);
+    let opened = program_input::begin(shape, &list[..count], bytes);
+    match opened {
+        Opened::Ready(setting) => at_blocks(shape, setting, 0, 0),
+        Opened::Refused(f) => {
+            let end = program_text::put_refused(out, 0, f);
+            ended(out, end)
+        }
+    }
+}
+
+// Blocks came, or the input ended.
+fn after_blocks(
+    shape: Shape,
+    list: &[u16],
+    setting: Setting,
+    number: u16,
+    bytes: &[u8],
+    out: &mut [u8],
+) -> Next
+    requires { ⌜ Asked (blocksFrom (matrixOf shape (take (shape .m * shape .rho) (now list))) (choiceOf setting) number) (now list) (now bytes) (now out) ⌝ }
+    ensures { λ r. ⌜ Replied (blocksReply (matrixOf shape (take (shape .m * shape .rho) (now (list .entry)))) (choiceOf setting) number (now (bytes .entry))) (awaitedOf (r .stage) (now (list .entry))) (r .want) (r .end) (now (out .exit)) ⌝ }
+{
+    let n = shape.n as usize;
+    let some = program_turns::at_once(n, number);
+    let want = some * (4 * n);
+    let count = entries(shape);
+    let end = program_lines::chunk(shape, &list[..count], setting, number, bytes, out, 0);
+    if bytes.len() < want {
+        return ended(out, end);
+    }
+    at_blocks(shape, setting, number + some as u16, end)
+}
+
+// The bytes came that a stage awaits, or fewer where the input ended. Only this repository's crates call it.
+pub fn advance(stage: Stage, list: &mut [u16], bytes: &[u8], out: &mut [u8]) -> Next
+    requires { ⌜ Asked (awaitedOf stage (now list)) (now list) (now bytes) (now out) ⌝ }
+    ensures { λ r. ⌜ Replied (replyTo (awaitedOf stage (now (list .entry))) (now (bytes .entry))) (awaitedOf (r .stage) (now (list .exit))) (r .want) (r .end) (now (out .exit)) ⌝ }
+{
+    match stage {
+        Stage::AtSizes => after_sizes(bytes, out),
+        Stage::AtList(shape) => after_list(shape, list, bytes, out),
+        Stage::AtSetting(shape) => after_setting(shape, list, bytes, out),
+        Stage::AtBlocks(shape, setting, number) => {
+            after_blocks(shape, list, setting, number, bytes, out)
+        }
+        Stage::AtEnd => ended(out, 0),
+    }
+}

@@ -1,0 +1,3 @@
+-- What the contracts of `program_lines` cite.
+pub mod Blocks
+pub mod Lending

@@ -1,0 +1,88 @@
+// The lines of blocks of samples, as functions on slices: line after line, and `short` at an end inside a block.
+// Rests on `program_block`, `matrix_index` and `program_text`. Document 01: "Worked by hand", the paragraph on the program.
+use matrix_check::Shape;
+use program_block::block;
+use quantiser::Setting;
+ghost use Prim.Native.Nat.{_+_, _*_};
+ghost use Rattle.matrix.specs.Shapes.{matrixOf};
+ghost use Rattle.quantiser_settings.specs.Settings.{choiceOf};
+ghost use Rattle.program_numerals.specs.Putting.{PutWithin};
+ghost use Rattle.matrix_index.specs.Index.{Indexed};
+ghost use Rattle.program_lines.specs.Lending.{Countable};
+ghost use Rattle.program_lines.specs.Blocks.{blocksIn, blockLines, chunkText};
+
+// The lines of the whole blocks that the bytes begin with, numbered from `number`.
+fn lines(
+    shape: Shape,
+    list: &[u16],
+    index: &[u16],
+    setting: Setting,
+    number: u16,
+    bytes: &[u8],
+    out: &mut [u8],
+    at: usize,
+) -> usize
+    requires { ⌜ Countable (matrixOf shape (now list)) (choiceOf setting) number (now bytes) at (now out) × Indexed (matrixOf shape (now list)) (now index) ⌝ }
+    ensures { λ r. ⌜ PutWithin (289 * blocksIn (matrixOf shape (now (list .entry))) (now (bytes .entry))) (blockLines (matrixOf shape (now (list .entry))) (choiceOf setting) number (blocksIn (matrixOf shape (now (list .entry))) (now (bytes .entry))) (now (bytes .entry))) at (now (out .entry)) (now (out .exit)) r ⌝ }
+{
+    let size = 4 * (shape.n as usize);
+    let mut k: u16 = 0;
+    let mut from = 0;
+    let mut end = at;
+    while size <= bytes.len() - from {
+        let to = from + size;
+        end = block(
+            shape,
+            list,
+            index,
+            setting,
+            number + k,
+            &bytes[from..to],
+            out,
+            end,
+        );
+        from = to;
+        k += 1;
+    }
+    end
+}
+
+// The same, with an index made once for all these blocks.
+fn all_lines(
+    shape: Shape,
+    list: &[u16],
+    setting: Setting,
+    number: u16,
+    bytes: &[u8],
+    out: &mut [u8],
+    at: usize,
+) -> usize
+    requires { ⌜ Countable (matrixOf shape (now list)) (choiceOf setting) number (now bytes) at (now out) ⌝ }
+    ensures { λ r. ⌜ PutWithin (289 * blocksIn (matrixOf shape (now (list .entry))) (now (bytes .entry))) (blockLines (matrixOf shape (now (list .entry))) (choiceOf setting) number (blocksIn (matrixOf shape (now (list .entry))) (now (bytes .entry))) (now (bytes .entry))) at (now (out .entry)) (now (out .exit)) r ⌝ }
+{
+    let mut index = [0u16; 32736];
+    matrix_index::build(shape, list, &mut index);
+    lines(shape, list, &index, setting, number, bytes, out, at)
+}
+
+// The lines of the blocks, and `short` where the bytes end inside a block.
+// Only this repository's crates call it, after asking refusals 1 to 6.
+pub fn chunk(
+    shape: Shape,
+    list: &[u16],
+    setting: Setting,
+    number: u16,
+    bytes: &[u8],
+    out: &mut [u8],
+    at: usize,
+) -> usize
+    requires { ⌜ Countable (matrixOf shape (now list)) (choiceOf setting) number (now bytes) at (now out) ⌝ }
+    ensures { λ r. ⌜ PutWithin (289 * blocksIn (matrixOf shape (now (list .entry))) (now (bytes .entry)) + 6) (chunkText (matrixOf shape (now (list .entry))) (choiceOf setting) number (now (bytes .entry))) at (now (out .entry)) (now (out .exit)) r ⌝ }
+{
+    let size = 4 * (shape.n as usize);
+    let end = all_lines(shape, list, setting, number, bytes, out, at);
+    if bytes.len() % size == 0 {
+        return end;
+    }
+    program_text::put_short(out, end)
+}

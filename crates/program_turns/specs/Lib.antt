@@ -1,0 +1,2 @@
+-- What the contracts of `program_turns` cite.
+pub mod Turns

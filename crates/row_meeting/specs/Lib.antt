@@ -1,2 +1,0 @@
--- What the contracts of `row_meeting` cite.
-pub mod Meeting

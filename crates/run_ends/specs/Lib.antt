@@ -1,3 +1,0 @@
--- What the contracts of `run_ends` cite.
-pub mod Stages
-pub mod Replies

@@ -1,2 +1,0 @@
--- What the contracts of `running_tally` cite.
-pub mod Parities

@@ -1,3 +1,0 @@
--- What the contracts of `sample_levels` cite.
-pub mod Samples
-pub mod Scaling

@@ -1,0 +1,75 @@
+// One step of a session, by value: the record in and out.
+// Rests on `session`, `session_asking`, `session_record`, `iterative_core`, `iterative_levels`, `packed_word`, `majority_votes` and `syndrome`. Document 01: "Rounds one at a time".
+use answers::Checked;
+use matrix_check::Shape;
+use session_record::Course;
+use session_record::Session;
+use session_record::Turn;
+ghost use Rattle.matrix.specs.Shapes.{matrixOf};
+ghost use Rattle.session_asking.specs.Reading.{Steppable};
+ghost use Rattle.session_asking.specs.Parts.{heldOf};
+ghost use Rattle.session.specs.Steps.{steppedLeft, stepOf};
+ghost use Rattle.session.specs.Leaving.{Leaves, RoundLent, RoundLeft};
+
+// Steps 4 to 6 on the word and the levels lent, and how many checks of the new word fail.
+fn round_on(shape: Shape, list: &[u16], middle: u8, word: &mut [u8], levels: &mut [i8]) -> u16
+    requires { ⌜ RoundLent (matrixOf shape (now list)) middle (now word) (now levels) ⌝ }
+    ensures { λ r. ⌜ RoundLeft (matrixOf shape (now (list .entry))) middle (now (word .entry)) (now (word .exit)) (now (levels .entry)) (now (levels .exit)) r ⌝ }
+{
+    let n = shape.n as usize;
+    let gamma = shape.gamma;
+    let top = 2 * (middle as u16);
+    let mut bits = [0u8; 1023];
+    let mut kept = [0u8; 1023];
+    let mut votes = [0u8; 1023];
+    packed_word::unpack(word, n, &mut bits);
+    iterative_levels::bias(levels, n, middle, &mut kept);
+    majority_votes::tally(shape, list, &bits, &mut votes);
+    iterative_levels::update(&votes, n, gamma, middle, top, &mut bits, &mut kept);
+    packed_word::pack_into(&bits, n, word);
+    iterative_levels::unbias(&kept, n, middle, levels);
+    syndrome::failing_count(shape, list, &bits)
+}
+
+// A step that no refusal applies to: one round, and what is counted on the word that it leaves.
+fn step_accepted(
+    session: Session,
+    shape: Shape,
+    list: &[u16],
+    received: &[u8],
+    word: &mut [u8],
+    levels: &mut [i8],
+) -> Turn
+    requires { ⌜ Steppable (matrixOf shape (now list)) (now received) (heldOf session (now word) (now levels)) ⌝ }
+    ensures { λ r. ⌜ Leaves (steppedLeft (matrixOf shape (now (list .entry))) (now (received .entry)) (heldOf session (now (word .entry)) (now (levels .entry)))) (r .answer) (r .session) (now (word .exit)) (now (levels .exit)) ⌝ }
+{
+    let n = shape.n as usize;
+    let need = (n + 7) / 8;
+    let course = Course {
+        bits: session.bits,
+        limit: session.limit,
+    };
+    let k = session.k;
+    let middle = iterative_core::middle_of(course.bits);
+    let failing = round_on(shape, list, middle, word, levels);
+    let changed = packed_word::differing(&word[..need], received);
+    session_record::after_round(shape, course, k + 1, failing, changed)
+}
+
+// One step of a session, by value: the record in and out. A refused step hands the record back.
+pub fn step_value(
+    session: Session,
+    shape: Shape,
+    list: &[u16],
+    received: &[u8],
+    word: &mut [u8],
+    levels: &mut [i8],
+) -> Turn
+    ensures { λ r. ⌜ Leaves (stepOf (matrixOf shape (now (list .entry))) (now (received .entry)) (heldOf session (now (word .entry)) (now (levels .entry)))) (r .answer) (r .session) (now (word .exit)) (now (levels .exit)) ⌝ }
+{
+    let asked = session_asking::ask_step(session, shape, list, received, word, levels);
+    match asked {
+        Checked::Accepted => step_accepted(session, shape, list, received, word, levels),
+        Checked::Refused(f) => session_record::refuse(session, f),
+    }
+}

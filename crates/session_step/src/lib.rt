@@ -1,0 +1,45 @@
+// One step of a session on the caller's own record, or on a copy of it.
+// Rests on `session_round` and `session_record`. Document 01: "Rounds one at a time".
+use answers::Answer;
+use matrix_check::Shape;
+use session_record::Session;
+use session_record::Turn;
+ghost use Rattle.matrix.specs.Shapes.{matrixOf};
+ghost use Rattle.session_asking.specs.Parts.{heldOf};
+ghost use Rattle.session.specs.Steps.{stepOf};
+ghost use Rattle.session.specs.Leaving.{Leaves};
+
+// One step, which brings the caller's own record up to date; a refused step leaves it.
+pub fn step(
+    session: &mut Session,
+    shape: Shape,
+    list: &[u16],
+    received: &[u8],
+    word: &mut [u8],
+    levels: &mut [i8],
+) -> Answer
+    ensures { λ r. ⌜ Leaves (stepOf (matrixOf shape (now (list .entry))) (now (received .entry)) (heldOf (now (session .entry)) (now (word .entry)) (now (levels .entry)))) r (now (session .exit)) (now (word .exit)) (now (levels .exit)) ⌝ }
+{
+    let stepped = session_round::step_value(*session, shape, list, received, word, levels);
+    *session = stepped.session;
+    stepped.answer
+}
+
+// `step` on a copy of the record, which is handed back: for callers that keep the record as numbers.
+pub fn step_copy(
+    session: Session,
+    shape: Shape,
+    list: &[u16],
+    received: &[u8],
+    word: &mut [u8],
+    levels: &mut [i8],
+) -> Turn
+    ensures { λ r. ⌜ Leaves (stepOf (matrixOf shape (now (list .entry))) (now (received .entry)) (heldOf session (now (word .entry)) (now (levels .entry)))) (r .answer) (r .session) (now (word .exit)) (now (levels .exit)) ⌝ }
+{
+    let mut stepped = session;
+    let answer = step(&mut stepped, shape, list, received, word, levels);
+    Turn {
+        session: stepped,
+        answer,
+    }
+}

@@ -1,2 +1,0 @@
--- What the contracts of `soft_levels` cite.
-pub mod Levels

@@ -1,4 +1,0 @@
--- What the contracts of `soft_rounds` cite.
-pub mod Rounds
-pub mod Stages
-pub mod Runs

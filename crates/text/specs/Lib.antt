@@ -1,2 +1,0 @@
--- What the contracts of `text` cite.
-pub mod Output

@@ -1,2 +1,0 @@
--- What the contracts of `votes` cite.
-pub mod Tallies
