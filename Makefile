@@ -20,14 +20,9 @@ run: tools
 	@if build/release/mlgd map --help >/dev/null 2>&1; then build/release/mlgd map "$(RESULTS)" --out "$(RESULTS:.csv=.svg)"; fi
 	@head -n 20 "$(RESULTS)"
 
-# The layout, the Rust tests, then the gate: its 'N passed, 0 failed' is the last line.
-# What `ffi` rests on is checked with the program, as `rt staticlib` would check it crate after crate.
+# The layout, the drawn pages, the gate from nothing, then the Rust tests on what it proved: its 'N passed, 0 failed' is the last line.
 test: tools
-	rt fmt --check
-	rt check decode session_open session_step ffi_codes one_step failing_checks
-	$(MAKE) --no-print-directory -j2 staticlib reference
-	cargo test --release --workspace
-	rt ci
+	tools/gate
 
 # One archive more: the core of one-step voting, which nobody but the benchmark links.
 bench: tools staticlib decode
@@ -69,5 +64,6 @@ audit: tools
 	cd target/audit && rt must-fail && python3 ../../tools/audit.py
 
 tools:
+	@command -v python3 >/dev/null || { echo "python3 is missing: two checks of the documents need it" >&2; exit 1; }
 	@command -v rt >/dev/null || { echo "the Rattle toolchain is missing: 'rt' is not on the PATH" >&2; exit 1; }
 	@command -v cargo >/dev/null || { echo "cargo is missing: install Rust to build the tests" >&2; exit 1; }

@@ -1,3 +1,2 @@
 -- What the contracts say of an answer.
 pub mod Paper
-pub mod Answers

@@ -1,11 +1,11 @@
 // What the calls answer: refusals, outcomes and reports by value.
-// specs/Answers.antt gives document 01's numbers for each case, and every contract speaks through it.
+// specs/Paper/Enums.antt gives document 01's numbers for each case, and every contract speaks through it.
 // The functions by which every call asks its refusals stand here too: a refusal where a test passes, one question after another,
 // and refusal 7's lengths.
 // Rests on nothing. Document 01: "Refused for the input", "Refused for the session", and what an answer holds ("Iterative voting").
 ghost use mathlib.Core.Path.{_≡_};
-ghost use Rattle.answers.specs.Paper.{accepted, refuseIf, andThen, wrongLengths, report, outcomeBy};
-ghost use Rattle.answers.specs.Answers.{numberOf, placeOf, outcomeOf, verdictOf, reportOf};
+ghost use Rattle.answers.specs.Paper.Answers.{accepted, refuseIf, andThen, wrongLengths, report, outcomeBy};
+ghost use Rattle.answers.specs.Paper.Enums.{numberOf, placeOf, outcomeOf, verdictOf, reportOf};
 
 // Why a call is refused. A refusal that has a place carries it.
 pub enum Refusal {

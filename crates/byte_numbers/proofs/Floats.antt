@@ -10,8 +10,8 @@ use Prim.Native.Nat.{ℕ, _*_, _/_}
 use lib.Ieee.{Float, binary32, ofBits}
 use lib.Ieee.Scale.{finite}
 use lib.ListN.{length}
-use Rattle.counting.proofs.Writing.{length-listed}
-use Rattle.byte_numbers.specs.Numbers.{number32, float, sampleIn, samplesIn, notFiniteIn}
+use Rattle.counting.proofs.Writes.{length-listed}
+use Rattle.byte_numbers.specs.Paper.Numbers.{number32, float, sampleIn, samplesIn, notFiniteIn}
 
 module _ (bs : List ℕ) where
   -- four bytes a float

@@ -6,9 +6,9 @@ use mathlib.Core.List.{List}
 use Prim.Native.Nat.{ℕ, _/_}
 use lib.Ieee.{Float}
 use lib.ListN.{length}
-use Rattle.counting.specs.Search.{first}
-use Rattle.counting.specs.Lists.{listed, over}
-use Rattle.byte_numbers.specs.Numbers.{sampleIn, notFiniteIn}
+use Rattle.counting.specs.Paper.Search.{first}
+use Rattle.counting.specs.Paper.Lists.{listed, over}
+use Rattle.byte_numbers.specs.Paper.Numbers.{sampleIn, notFiniteIn}
 
 pub record Sampled (bs : List ℕ) (old new : List Float) (r : ℕ) : Type 0 where
   pub place : r ≡ first (notFiniteIn bs) (length bs / 4)

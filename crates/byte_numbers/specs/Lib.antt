@@ -1,3 +1,3 @@
 -- What the contracts of `byte_numbers` cite.
-pub mod Numbers
+pub mod Paper
 pub mod Floats

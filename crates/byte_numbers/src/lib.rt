@@ -5,8 +5,8 @@ ghost use mathlib.Core.Path.{_≡_};
 ghost use lib.Ieee.{binary32, ofBits};
 ghost use lib.Ieee.Scale.{finite};
 ghost use lib.ListN.{length};
-ghost use Rattle.counting.specs.Lists.{over};
-ghost use Rattle.byte_numbers.specs.Numbers.{number16 as Numbers·number16, number32 as Numbers·number32, entriesIn};
+ghost use Rattle.counting.specs.Paper.Lists.{over};
+ghost use Rattle.byte_numbers.specs.Paper.Numbers.{number16 as Numbers·number16, number32 as Numbers·number32, entriesIn};
 ghost use Rattle.byte_numbers.specs.Floats.{Sampled};
 
 // A byte as a wider number.

@@ -6,8 +6,8 @@ use native.Mathlib.Decide.{decLt}
 use native.Mathlib.Omega.{arith}
 use borrow.Author.Tests.{lt-ltb, le-ltb}
 use lib.IntN.{ℤ, pos, negsuc, negℤ, natAbs, subℕ, _+ℤ_}
-use Rattle.counting.specs.Sum.{sum}
-use Rattle.counting.specs.Integers.{sumℤ, cut}
+use Rattle.counting.specs.Paper.Sum.{sumBelow}
+use Rattle.counting.specs.Paper.Integers.{sumℤ, cut}
 
 -- ---- a difference of two numbers, by its sign
 
@@ -78,15 +78,15 @@ sumℤ-cong zero h = refl
 sumℤ-cong (suc k) h = ap₂ _+ℤ_ (sumℤ-cong k (λ i l. h i (omega arith))) (h k (omega arith))
 
 -- a sum of differences
-pub sumℤ-difference : (k : ℕ) (a b : ℕ → ℕ) {f : ℕ → ℤ} → ((i : ℕ) → i < k → f i ≡ subℕ (a i) (b i)) → sumℤ k f ≡ subℕ (sum k a) (sum k b)
-unfolding sumℤ sum
+pub sumℤ-difference : (k : ℕ) (a b : ℕ → ℕ) {f : ℕ → ℤ} → ((i : ℕ) → i < k → f i ≡ subℕ (a i) (b i)) → sumℤ k f ≡ subℕ (sumBelow k a) (sumBelow k b)
+unfolding sumℤ sumBelow
 sumℤ-difference zero a b h = refl
 sumℤ-difference (suc k) a b h =
-    ap₂ _+ℤ_ (sumℤ-difference k a b (λ i l. h i (omega arith))) (h k (omega arith)) ∙ sub-sum (sum k a) (sum k b) (a k) (b k)
+    ap₂ _+ℤ_ (sumℤ-difference k a b (λ i l. h i (omega arith))) (h k (omega arith)) ∙ sub-sum (sumBelow k a) (sumBelow k b) (a k) (b k)
 
 -- a sum is at most the sum of the magnitudes
-pub sumℤ-bound : (k : ℕ) (b : ℕ → ℕ) (f : ℕ → ℤ) → ((i : ℕ) → i < k → natAbs (f i) ≤ b i) → natAbs (sumℤ k f) ≤ sum k b
-unfolding sumℤ sum
+pub sumℤ-bound : (k : ℕ) (b : ℕ → ℕ) (f : ℕ → ℤ) → ((i : ℕ) → i < k → natAbs (f i) ≤ b i) → natAbs (sumℤ k f) ≤ sumBelow k b
+unfolding sumℤ sumBelow
 sumℤ-bound zero b f h = zero-le
 sumℤ-bound (suc k) b f h =
     omega (arith, abs-add (sumℤ k f) (f k), sumℤ-bound k b f (λ i l. h i (omega arith)), h k (omega arith))

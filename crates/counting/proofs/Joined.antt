@@ -15,20 +15,20 @@ use lib.Dec.{eqb}
 use lib.ListN.{length, getD, length-append, List·getD-append}
 use lib.Seq.{getD-append-add}
 use borrow.Author.Tests.{eq-eqb, eqb-true}
-use Rattle.counting.specs.Sum.{sum}
+use Rattle.counting.specs.Paper.Sum.{sumBelow}
 use Rattle.counting.specs.Joined.{joined, sameList}
 use Rattle.counting.proofs.Sums.{sum-next}
 use Rattle.counting.proofs.Searches.{never, and-left, and-right, and-both}
 
 module _ {A : Type 0} (f : ℕ → List A) where
   -- as long as its parts together
-  pub length-joined : (k : ℕ) → length (joined k f) ≡ sum k (λ i. length (f i))
-  unfolding joined sum
+  pub length-joined : (k : ℕ) → length (joined k f) ≡ sumBelow k (λ i. length (f i))
+  unfolding joined sumBelow
   length-joined zero = refl
   length-joined (suc k) = length-append (joined k f) (f k) ∙ omega (arith, length-joined k)
 
   -- element q of part j stands q places after the parts before j
-  pub getD-joined : (k j q : ℕ) (d : A) → j < k → q < length (f j) → getD (joined k f) (sum j (λ i. length (f i)) + q) d ≡ getD (f j) q d
+  pub getD-joined : (k j q : ℕ) (d : A) → j < k → q < length (f j) → getD (joined k f) (sumBelow j (λ i. length (f i)) + q) d ≡ getD (f j) q d
   unfolding joined
   getD-joined zero j q d l h = absurd (not-suc-le-zero l)
   getD-joined (suc k) j q d l h =
@@ -36,10 +36,10 @@ module _ {A : Type 0} (f : ℕ → List A) where
         | yes e ↦
             rw (e, sym (length-joined k)) (getD-append-add (joined k f) (f k) q d)
         | no ne ↦
-            List·getD-append (joined k f) (f k) d (sum j (λ i. length (f i)) + q) (within (omega arith)) ∙ getD-joined k j q d (omega arith) h
+            List·getD-append (joined k f) (f k) d (sumBelow j (λ i. length (f i)) + q) (within (omega arith)) ∙ getD-joined k j q d (omega arith) h
       ]
     where
-      within : j < k → sum j (λ i. length (f i)) + q < length (joined k f)
+      within : j < k → sumBelow j (λ i. length (f i)) + q < length (joined k f)
       within m = omega (arith, length-joined k, sum-next j k (λ i. length (f i)) m)
 
 -- lists that compare equal are equal

@@ -1,9 +1,9 @@
 pub mod Sums
 pub mod Ascending
 pub mod Searches
-pub mod Deciding
-pub mod Writing
 pub mod Joined
 pub mod Integers
 pub mod Stores
 pub mod Digits
+pub mod Decisions
+pub mod Writes

@@ -8,7 +8,7 @@ use native.Mathlib.Numerals.{add-one}
 use native.Mathlib.Decide.{decLt}
 use native.Mathlib.Omega.{arith}
 use lib.Dec.{T}
-use Rattle.counting.specs.Search.{any, first, FirstAt}
+use Rattle.counting.specs.Paper.Search.{anyBelow, first, FirstAt}
 
 -- a test that passes does not fail
 pub never : true ≡ false → ⊥
@@ -45,28 +45,29 @@ or-neither a b e f = rw (e, f)
 
 module _ (t : ℕ → Bool) where
   -- one place more
-  pub any-step : (k : ℕ) → any t (k + 1) ≡ any t k || t k
-  unfolding any
-  any-step k = ap (any t) (add-one k)
+  pub any-step : (k : ℕ) → anyBelow t (k + 1) ≡ anyBelow t k || t k
+  unfolding anyBelow
+  any-step k = ap (anyBelow t) (add-one k)
 
-  pub any-none : (k : ℕ) → ((i : ℕ) → i < k → t i ≡ false) → any t k ≡ false
-  unfolding any
+  pub any-none : (k : ℕ) → ((i : ℕ) → i < k → t i ≡ false) → anyBelow t k ≡ false
+  unfolding anyBelow
   any-none zero h = refl
   any-none (suc k) h = rw (any-none k (λ i l. h i (omega arith)), h k (omega arith))
 
-  pub any-at : (k i : ℕ) → i < k → t i ≡ true → any t k ≡ true
-  unfolding any
+  pub any-at : (k i : ℕ) → i < k → t i ≡ true → anyBelow t k ≡ true
+  unfolding anyBelow
   any-at zero i l e = absurd (not-suc-le-zero l)
   any-at (suc k) i l e =
-      ⊎-elim (λ q. let h : t k ≡ true = ap t (sym q) ∙ e in rw h (or-true (any t k))) (λ m. rw (any-at k i m e)) (eq-or-lt-of-le (le-of-suc-le-suc l))
+      ⊎-elim (λ q. let h : t k ≡ true = ap t (sym q) ∙ e in rw h (or-true (anyBelow t k))) (λ m. rw (any-at k i m e)) (eq-or-lt-of-le (le-of-suc-le-suc l))
 
-  pub any-found : (k : ℕ) → any t k ≡ true → (i : ℕ) × (i < k) × (t i ≡ true)
-  unfolding any
+  pub any-found : (k : ℕ) → anyBelow t k ≡ true → (i : ℕ) × (i < k) × (t i ≡ true)
+  unfolding anyBelow
   any-found zero e = absurd (never (sym e))
   any-found (suc k) e =
-      cases (any t k) (λ y. let f : (i : ℕ) × (i < k) × (t i ≡ true) = any-found k y in (f .0, omega (arith, f .1), f .2)) (λ o. (k, omega arith, rw o at e))
+      cases (anyBelow t k) (λ y. let f : (i : ℕ) × (i < k) × (t i ≡ true) = any-found k y in (f .0, omega (arith, f .1), f .2))
+      (λ o. (k, omega arith, rw o at e))
 
-  pub any-clear : (k : ℕ) → any t k ≡ false → (i : ℕ) → i < k → t i ≡ false
+  pub any-clear : (k : ℕ) → anyBelow t k ≡ false → (i : ℕ) → i < k → t i ≡ false
   any-clear k e i l = cases (t i) (λ y. absurd (never (sym (any-at k i l y) ∙ e))) (λ o. o)
 
   -- nothing passes: the bound itself
@@ -88,7 +89,7 @@ module _ (t : ℕ → Bool) where
   unfolding first
   first-is zero = (omega arith, λ l. absurd (not-suc-le-zero l), λ i l. absurd (not-suc-le-zero l))
   first-is (suc k) =
-      cases (any t k)
+      cases (anyBelow t k)
       (λ y. rw y (
       let p = first-is k in
       let f = any-found k y in
@@ -123,8 +124,8 @@ module _ (t : ℕ → Bool) where
       (cases (t x) (λ y. y) (λ n. absurd (no′ x n (f .here))))
 
 -- tests that agree below the bound
-pub any-cong : (t u : ℕ → Bool) (k : ℕ) → ((i : ℕ) → i < k → t i ≡ u i) → any t k ≡ any u k
-unfolding any
+pub any-cong : (t u : ℕ → Bool) (k : ℕ) → ((i : ℕ) → i < k → t i ≡ u i) → anyBelow t k ≡ anyBelow u k
+unfolding anyBelow
 any-cong t u zero h = refl
 any-cong t u (suc k) h = rw (any-cong t u k (λ i l. h i (omega arith)), h k (omega arith))
 

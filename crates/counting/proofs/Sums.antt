@@ -7,92 +7,92 @@ use native.Mathlib.Nat.{add-zero, add-suc, suc-mul, mul-zero, mul-add, add-mul, 
 use native.Mathlib.Decide.{ℕ-discrete}
 use native.Mathlib.Omega.{arith}
 use borrow.Author.Tests.{eq-eqb, ne-eqb}
-use Rattle.counting.specs.Sum.{sum, flag, same, differ}
+use Rattle.counting.specs.Paper.Sum.{sumBelow, flag, same, unequal}
 
-pub sum-cong : (k : ℕ) {f g : ℕ → ℕ} → ((i : ℕ) → i < k → f i ≡ g i) → sum k f ≡ sum k g
-unfolding sum
+pub sum-cong : (k : ℕ) {f g : ℕ → ℕ} → ((i : ℕ) → i < k → f i ≡ g i) → sumBelow k f ≡ sumBelow k g
+unfolding sumBelow
 sum-cong zero h = refl
 sum-cong (suc k) h = ap₂ _+_ (sum-cong k (λ i l. h i (omega arith))) (h k (omega arith))
 
-pub sum-le : (k : ℕ) {f g : ℕ → ℕ} → ((i : ℕ) → i < k → f i ≤ g i) → sum k f ≤ sum k g
-unfolding sum
+pub sum-le : (k : ℕ) {f g : ℕ → ℕ} → ((i : ℕ) → i < k → f i ≤ g i) → sumBelow k f ≤ sumBelow k g
+unfolding sumBelow
 sum-le zero h = zero-le
 sum-le (suc k) h = omega (arith, sum-le k (λ i l. h i (omega arith)), h k (omega arith))
 
-pub sum-zero : (k : ℕ) {f : ℕ → ℕ} → ((i : ℕ) → i < k → f i ≡ 0) → sum k f ≡ 0
-unfolding sum
+pub sum-zero : (k : ℕ) {f : ℕ → ℕ} → ((i : ℕ) → i < k → f i ≡ 0) → sumBelow k f ≡ 0
+unfolding sumBelow
 sum-zero zero h = refl
 sum-zero (suc k) h = omega (arith, sum-zero k (λ i l. h i (omega arith)), h k (omega arith))
 
-pub sum-bound : (k b : ℕ) {f : ℕ → ℕ} → ((i : ℕ) → i < k → f i ≤ b) → sum k f ≤ k * b
-unfolding sum
+pub sum-bound : (k b : ℕ) {f : ℕ → ℕ} → ((i : ℕ) → i < k → f i ≤ b) → sumBelow k f ≤ k * b
+unfolding sumBelow
 sum-bound zero b h = zero-le
 sum-bound (suc k) b h = omega (arith, sum-bound k b (λ i l. h i (omega arith)), h k (omega arith))
 
-pub sum-add : (k : ℕ) (f g : ℕ → ℕ) → sum k (λ i. f i + g i) ≡ sum k f + sum k g
-unfolding sum
+pub sum-add : (k : ℕ) (f g : ℕ → ℕ) → sumBelow k (λ i. f i + g i) ≡ sumBelow k f + sumBelow k g
+unfolding sumBelow
 sum-add zero f g = refl
 sum-add (suc k) f g = omega (arith, sum-add k f g)
 
-pub sum-mul : (k a : ℕ) (f : ℕ → ℕ) → sum k (λ i. a * f i) ≡ a * sum k f
-unfolding sum
+pub sum-mul : (k a : ℕ) (f : ℕ → ℕ) → sumBelow k (λ i. a * f i) ≡ a * sumBelow k f
+unfolding sumBelow
 sum-mul zero a f = sym (mul-zero a)
-sum-mul (suc k) a f = omega (arith, sum-mul k a f, mul-add a (sum k f) (f k))
+sum-mul (suc k) a f = omega (arith, sum-mul k a f, mul-add a (sumBelow k f) (f k))
 
-pub sum-mul-right : (k a : ℕ) (f : ℕ → ℕ) → sum k (λ i. f i * a) ≡ sum k f * a
-unfolding sum
+pub sum-mul-right : (k a : ℕ) (f : ℕ → ℕ) → sumBelow k (λ i. f i * a) ≡ sumBelow k f * a
+unfolding sumBelow
 sum-mul-right zero a f = sym (zero-mul a)
-sum-mul-right (suc k) a f = omega (arith, sum-mul-right k a f, add-mul (sum k f) (f k) a)
+sum-mul-right (suc k) a f = omega (arith, sum-mul-right k a f, add-mul (sumBelow k f) (f k) a)
 
-pub sum-swap : (m n : ℕ) (f : ℕ → ℕ → ℕ) → sum m (λ i. sum n (λ j. f i j)) ≡ sum n (λ j. sum m (λ i. f i j))
-unfolding sum
+pub sum-swap : (m n : ℕ) (f : ℕ → ℕ → ℕ) → sumBelow m (λ i. sumBelow n (λ j. f i j)) ≡ sumBelow n (λ j. sumBelow m (λ i. f i j))
+unfolding sumBelow
 sum-swap zero n f = sym (sum-zero n (λ j l. refl))
 sum-swap (suc m) n f =
-    ap (λ (x : ℕ). x + sum n (f m)) (sum-swap m n f) ∙ sym (sum-add n (λ j. sum m (λ i. f i j)) (f m))
+    ap (λ (x : ℕ). x + sumBelow n (f m)) (sum-swap m n f) ∙ sym (sum-add n (λ j. sumBelow m (λ i. f i j)) (f m))
 
 -- a sum in two parts, and a sum over m rows of rho terms each
-pub sum-append : (a b : ℕ) (f : ℕ → ℕ) → sum (a + b) f ≡ sum a f + sum b (λ k. f (a + k))
-unfolding sum
+pub sum-append : (a b : ℕ) (f : ℕ → ℕ) → sumBelow (a + b) f ≡ sumBelow a f + sumBelow b (λ k. f (a + k))
+unfolding sumBelow
 sum-append a zero f = rw (add-zero a) (omega arith)
 sum-append a (suc b) f = rw (add-suc a b) (omega (arith, sum-append a b f))
 
-pub sum-flat : (m rho : ℕ) (f : ℕ → ℕ) → sum (m * rho) f ≡ sum m (λ i. sum rho (λ k. f (i * rho + k)))
-unfolding sum
+pub sum-flat : (m rho : ℕ) (f : ℕ → ℕ) → sumBelow (m * rho) f ≡ sumBelow m (λ i. sumBelow rho (λ k. f (i * rho + k)))
+unfolding sumBelow
 sum-flat zero rho f = rw (zero-mul rho)
 sum-flat (suc m) rho f = rw (suc-mul m rho) (omega (arith, sum-append (m * rho) rho f, sum-flat m rho f))
 
 -- one term, where it lies in the sum
-pub sum-term : (k : ℕ) (f : ℕ → ℕ) (i : ℕ) → i < k → f i ≤ sum k f
-unfolding sum
+pub sum-term : (k : ℕ) (f : ℕ → ℕ) (i : ℕ) → i < k → f i ≤ sumBelow k f
+unfolding sumBelow
 sum-term zero f i h = absurd (not-suc-le-zero h)
 sum-term (suc k) f i h =
     elim (ℕ-discrete i k) [ yes e ↦ omega (arith, ap f e) | no ne ↦ omega (arith, sum-term k f i (omega arith)) ]
 
 -- a sum that is not 0 has a term that is not 0
-pub sum-pos : (k : ℕ) (f : ℕ → ℕ) → 0 < sum k f → (i : ℕ) × (i < k) × (0 < f i)
-unfolding sum
+pub sum-pos : (k : ℕ) (f : ℕ → ℕ) → 0 < sumBelow k f → (i : ℕ) × (i < k) × (0 < f i)
+unfolding sumBelow
 sum-pos zero f h = absurd (not-suc-le-zero h)
 sum-pos (suc k) f h =
     elim (eq-zero-or-pos (f k))
     [ inl e ↦ let p = sum-pos k f (omega arith) in (p .0, omega arith, p .2) | inr l ↦ (k, omega arith, l) ]
 
 -- at most one term is not 0, and it is at most 1
-pub sum-one : (k : ℕ) (f : ℕ → ℕ) → ((i : ℕ) → i < k → f i ≤ 1) → ((i i′ : ℕ) → i < i′ → i′ < k → 0 < f i → 0 < f i′ → ⊥) → sum k f ≤ 1
-unfolding sum
+pub sum-one : (k : ℕ) (f : ℕ → ℕ) → ((i : ℕ) → i < k → f i ≤ 1) → ((i i′ : ℕ) → i < i′ → i′ < k → 0 < f i → 0 < f i′ → ⊥) → sumBelow k f ≤ 1
+unfolding sumBelow
 sum-one zero f small once = zero-le
 sum-one (suc k) f small once =
     elim (eq-zero-or-pos (f k)) [
       | inl e ↦ omega (arith, sum-one k f (λ i l. small i (omega arith)) (λ i i′ l l′. once i i′ l (omega arith)))
       | inr h ↦
-          elim (eq-zero-or-pos (sum k f)) [
+          elim (eq-zero-or-pos (sumBelow k f)) [
             | inl e ↦ omega (arith, small k (omega arith))
             | inr l ↦ let p = sum-pos k f l in absurd (once (p .0) k (p .1) (omega arith) (p .2) h)
           ]
     ]
 
 -- two terms that are not 0
-pub sum-two : (k : ℕ) (f : ℕ → ℕ) (a b : ℕ) → a < k → b < k → (a ≡ b → ⊥) → 0 < f a → 0 < f b → 2 ≤ sum k f
-unfolding sum
+pub sum-two : (k : ℕ) (f : ℕ → ℕ) (a b : ℕ) → a < k → b < k → (a ≡ b → ⊥) → 0 < f a → 0 < f b → 2 ≤ sumBelow k f
+unfolding sumBelow
 sum-two zero f a b ha hb ne pa pb = absurd (not-suc-le-zero ha)
 sum-two (suc k) f a b ha hb ne pa pb =
     elim (ℕ-discrete a k) [
@@ -115,13 +115,13 @@ unfolding same
 same-ne a b h = ap flag (ne-eqb a b h)
 
 -- the sum that picks one term
-pub sum-pick : (k : ℕ) (f : ℕ → ℕ) (a : ℕ) → a < k → sum k (λ i. same a i * f i) ≡ f a
-unfolding sum
+pub sum-pick : (k : ℕ) (f : ℕ → ℕ) (a : ℕ) → a < k → sumBelow k (λ i. same a i * f i) ≡ f a
+unfolding sumBelow
 sum-pick zero f a h = absurd (not-suc-le-zero h)
 sum-pick (suc k) f a h =
     elim (ℕ-discrete a k) [
       | yes e ↦
-          let rest : sum k (λ i. same a i * f i) ≡ 0 =
+          let rest : sumBelow k (λ i. same a i * f i) ≡ 0 =
           sum-zero k (λ i l. ap (λ (x : ℕ). x * f i) (same-ne a i (λ q. omega arith)) ∙ zero-mul (f i)) in
           omega (arith, ap (λ (x : ℕ). x * f k) (ap (same a) (sym e) ∙ same-refl a), one-mul (f k), ap f e)
       | no ne ↦ omega (arith, ap (λ (x : ℕ). x * f k) (same-ne a k ne), zero-mul (f k), sum-pick k f a (omega arith))
@@ -139,27 +139,27 @@ same-sym a b =
     elim (ℕ-discrete a b)
     [ yes e ↦ ap₂ same e (sym e) | no ne ↦ same-ne a b ne ∙ sym (same-ne b a (λ e. ne (sym e))) ]
 
-pub differ-eq : (a b : ℕ) → a ≡ b → differ a b ≡ 0
-unfolding differ
+pub differ-eq : (a b : ℕ) → a ≡ b → unequal a b ≡ 0
+unfolding unequal
 differ-eq a b h = ap (λ (t : Bool). flag (not t)) (eq-eqb a b h)
 
-pub differ-ne : (a b : ℕ) → (a ≡ b → ⊥) → differ a b ≡ 1
-unfolding differ
+pub differ-ne : (a b : ℕ) → (a ≡ b → ⊥) → unequal a b ≡ 1
+unfolding unequal
 differ-ne a b h = ap (λ (t : Bool). flag (not t)) (ne-eqb a b h)
 
-pub differ-le : (a b : ℕ) → differ a b ≤ 1
+pub differ-le : (a b : ℕ) → unequal a b ≤ 1
 differ-le a b =
     elim (ℕ-discrete a b) [ yes e ↦ omega (arith, differ-eq a b e) | no ne ↦ omega (arith, differ-ne a b ne) ]
 
-pub differ-zero : (a b : ℕ) → differ a b ≡ 0 → a ≡ b
+pub differ-zero : (a b : ℕ) → unequal a b ≡ 0 → a ≡ b
 differ-zero a b h = elim (ℕ-discrete a b) [ yes e ↦ e | no ne ↦ omega (arith, differ-ne a b ne) ]
 
-pub differ-sym : (a b : ℕ) → differ a b ≡ differ b a
+pub differ-sym : (a b : ℕ) → unequal a b ≡ unequal b a
 differ-sym a b =
     elim (ℕ-discrete a b)
     [ yes e ↦ differ-eq a b e ∙ sym (differ-eq b a (sym e)) | no ne ↦ differ-ne a b ne ∙ sym (differ-ne b a (λ e. ne (sym e))) ]
 
-pub differ-triangle : (a b x y : ℕ) → differ a b ≤ differ x a + differ x y + differ y b
+pub differ-triangle : (a b x y : ℕ) → unequal a b ≤ unequal x a + unequal x y + unequal y b
 differ-triangle a b x y =
     elim (ℕ-discrete a b) [
       | yes e ↦ omega (arith, differ-eq a b e)
@@ -175,8 +175,8 @@ differ-triangle a b x y =
     ]
 
 -- of bits: they differ where their sum is odd
-pub differ-bits : (a b : ℕ) → a < 2 → b < 2 → a + b ≡ differ a b + 2 * (a * b)
-unfolding differ
+pub differ-bits : (a b : ℕ) → a < 2 → b < 2 → a + b ≡ unequal a b + 2 * (a * b)
+unfolding unequal
 differ-bits zero zero h l = refl
 differ-bits zero (suc zero) h l = refl
 differ-bits zero (suc (suc b)) h l = omega arith
@@ -188,13 +188,13 @@ differ-bits (suc (suc a)) b h l = omega arith
 -- ---- parts of a sum
 
 -- the first terms are no more than all of them
-pub sum-part : (k n : ℕ) (f : ℕ → ℕ) → k ≤ n → sum k f ≤ sum n f
-unfolding sum
-sum-part k zero f h = let e : k ≡ 0 = omega arith in omega (arith, ap (λ (y : ℕ). sum y f) e)
+pub sum-part : (k n : ℕ) (f : ℕ → ℕ) → k ≤ n → sumBelow k f ≤ sumBelow n f
+unfolding sumBelow
+sum-part k zero f h = let e : k ≡ 0 = omega arith in omega (arith, ap (λ (y : ℕ). sumBelow y f) e)
 sum-part k (suc n) f h =
-    elim (ℕ-discrete k (suc n)) [ yes e ↦ omega (arith, ap (λ (y : ℕ). sum y f) e) | no ne ↦ omega (arith, sum-part k n f (omega arith)) ]
+    elim (ℕ-discrete k (suc n)) [ yes e ↦ omega (arith, ap (λ (y : ℕ). sumBelow y f) e) | no ne ↦ omega (arith, sum-part k n f (omega arith)) ]
 
 -- nor are the first terms and the next
-pub sum-next : (k n : ℕ) (f : ℕ → ℕ) → k < n → sum k f + f k ≤ sum n f
-unfolding sum
+pub sum-next : (k n : ℕ) (f : ℕ → ℕ) → k < n → sumBelow k f + f k ≤ sumBelow n f
+unfolding sumBelow
 sum-next k n f h = sum-part (suc k) n f h

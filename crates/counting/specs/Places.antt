@@ -5,7 +5,7 @@
 use Prim.Native.Nat.{ℕ, _+_}
 use mathlib.Core.List.{List}
 use lib.ListN.{getD}
-use Rattle.counting.specs.Sum.{sum, same}
+use Rattle.counting.specs.Paper.Sum.{sumBelow, same}
 
 -- a list read by its places
 abbrev pub at : List ℕ → ℕ → ℕ
@@ -13,4 +13,4 @@ at l j = getD l j 0
 
 -- a number counted in a part of a list
 unfoldable pub among : List ℕ → ℕ → ℕ → ℕ → ℕ
-among l from count j = sum count (λ k. same (at l (from + k)) j)
+among l from count j = sumBelow count (λ k. same (at l (from + k)) j)

@@ -6,11 +6,11 @@
 use mathlib.Core.Path.{_≡_, sym, ap}
 use mathlib.Core.List.{List}
 use Prim.Native.Nat.{ℕ}
-use Rattle.answers.specs.Paper.{Verdict, accepted, refused, refusal, report, after}
-use Rattle.packed_word.specs.Packed.{bitAt, bytesFor}
-use Rattle.matrix.specs.Code.{Matrix, failing}
-use Rattle.matrix.specs.Check.{checkOf}
-use Rattle.syndrome.specs.Failing.{wordVerdict, failingVerdict, failingOf}
+use Rattle.answers.specs.Paper.Answers.{Verdict, accepted, refused, refusal, report, after}
+use Rattle.packed_word.specs.Paper.Packed.{bitAt, bytesFor}
+use Rattle.matrix.specs.Paper.Code.{Matrix, failing}
+use Rattle.matrix.specs.Paper.Check.{checkOf}
+use Rattle.syndrome.specs.Paper.Failing.{wordVerdict, failingVerdict, failingOf}
 
 module _ (H : Matrix) (w : List ℕ) where
   says : (v : Verdict) → failingVerdict H w ≡ v → failingOf H w ≡ after v (report 0 0 (failing H (bitAt w)) 0)

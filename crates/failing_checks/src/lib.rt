@@ -9,12 +9,12 @@ use syndrome::ask_word;
 use syndrome::failing_count;
 ghost use mathlib.Core.Path.{_≡_};
 ghost use lib.ListN.{length};
-ghost use Rattle.answers.specs.Answers.{countedOf};
-ghost use Rattle.packed_word.specs.Packed.{bitAt, bytesFor};
-ghost use Rattle.matrix.specs.Code.{failing};
-ghost use Rattle.matrix.specs.Reading.{Accepted};
-ghost use Rattle.matrix.specs.Shapes.{matrixOf};
-ghost use Rattle.syndrome.specs.Failing.{failingOf};
+ghost use Rattle.answers.specs.Paper.Enums.{countedOf};
+ghost use Rattle.packed_word.specs.Paper.Packed.{bitAt, bytesFor};
+ghost use Rattle.matrix.specs.Paper.Code.{failing};
+ghost use Rattle.matrix.specs.Paper.PlainCheck.{Accepted};
+ghost use Rattle.matrix.specs.Paper.Shapes.{matrixOf};
+ghost use Rattle.syndrome.specs.Paper.Failing.{failingOf};
 
 // The failing checks of a received word that has its bytes.
 fn count(shape: Shape, list: &[u16], received: &[u8]) -> u16

@@ -7,13 +7,13 @@ use lib.IntN.{ℤ}
 use lib.Ieee.{Float}
 use lib.ListN.{length}
 use Rattle.counting.proofs.Searches.{cases}
-use Rattle.answers.specs.Paper.{Verdict, accepted, refused, Said, andThen, after, written}
-use Rattle.matrix.specs.Code.{Matrix}
-use Rattle.matrix.specs.Check.{checkOf}
-use Rattle.quantiser_levels.specs.Samples.{Choice, settingFits, quantiseVerdict}
-use Rattle.quantiser.specs.Filling.{Quantised}
-use Rattle.iterative_core.specs.Iterative.{samplesVerdict, iterativeVerdict, iterativeOf, iterativeWord, iterativeLevels}
-use Rattle.iterative_core.specs.Calls.{Answered}
+use Rattle.answers.specs.Paper.Answers.{Verdict, accepted, refused, Said, andThen, after, written}
+use Rattle.matrix.specs.Paper.Code.{Matrix}
+use Rattle.matrix.specs.Paper.Check.{checkOf}
+use Rattle.quantiser_levels.specs.Paper.Samples.{Setting, settingFits, quantiseVerdict}
+use Rattle.quantiser.specs.Paper.Call.{Quantised}
+use Rattle.iterative_core.specs.Paper.Iterative.{samplesVerdict, iterativeVerdict, iterativeOf, iterativeWord, iterativeLevels}
+use Rattle.iterative_core.specs.Paper.Call.{IterativeAnswered}
 use Rattle.ffi_codes.specs.Settings.{StandsFor}
 
 -- what a refusal by 6 says and writes does not turn on the setting
@@ -32,21 +32,21 @@ module _ (v : Verdict) where
       go accepted = refl
       go (refused k x) = refl
 
-pub unfit-verdict : (H : Matrix) (S : Choice) (xs : List Float) (b l : ℕ) → settingFits S ≡ false
+pub unfit-verdict : (H : Matrix) (S : Setting) (xs : List Float) (b l : ℕ) → settingFits S ≡ false
     → iterativeVerdict H S xs b l ≡ andThen (checkOf H) (refused 6 0)
 unfolding iterativeVerdict samplesVerdict
 unfit-verdict H S xs b l e = rw e
 
-unfit-quantise : (S : Choice) (xs : List Float) (l b : ℕ) → settingFits S ≡ false → quantiseVerdict S xs l b ≡ refused 6 0
+unfit-quantise : (S : Setting) (xs : List Float) (l b : ℕ) → settingFits S ≡ false → quantiseVerdict S xs l b ≡ refused 6 0
 unfolding quantiseVerdict
 unfit-quantise S xs l b e = rw e
 
-module _ (S T : Choice) (st : StandsFor S T) (xs : List Float) (said : Said) (w w′ : List ℕ) (ls ls′ : List ℤ) where
-  pub iterative-alike : (H : Matrix) → Answered H T xs said w w′ ls ls′ → Answered H S xs said w w′ ls ls′
+module _ (S T : Setting) (st : StandsFor S T) (xs : List Float) (said : Said) (w w′ : List ℕ) (ls ls′ : List ℤ) where
+  pub iterative-alike : (H : Matrix) → IterativeAnswered H T xs said w w′ ls ls′ → IterativeAnswered H S xs said w w′ ls ls′
   unfolding iterativeOf
-  iterative-alike H a = cases (settingFits S) (λ y. subst (λ (X : Choice). Answered H X xs said w w′ ls ls′) (st .same y) a) unfit
+  iterative-alike H a = cases (settingFits S) (λ y. subst (λ (X : Setting). IterativeAnswered H X xs said w w′ ls ls′) (st .same y) a) unfit
     where
-      unfit : settingFits S ≡ false → Answered H S xs said w w′ ls ls′
+      unfit : settingFits S ≡ false → IterativeAnswered H S xs said w w′ ls ls′
       unfit n =
           let vT = unfit-verdict H T xs (length w) (length ls) (st .fits ∙ n) in
           let vS = unfit-verdict H S xs (length w) (length ls) n in
@@ -56,9 +56,9 @@ module _ (S T : Choice) (st : StandsFor S T) (xs : List Float) (said : Said) (w 
             levels = a .levels ∙ rw (vT, vS) (keeps-six (checkOf H) (iterativeLevels H T xs) ls ∙ sym (keeps-six (checkOf H) (iterativeLevels H S xs) ls));
           }
 
-pub quantise-alike : (S T : Choice) → StandsFor S T → (xs : List Float) (v : Verdict) (ls ls′ : List ℤ) (w w′ : List ℕ) → Quantised T xs v ls ls′ w w′
+pub quantise-alike : (S T : Setting) → StandsFor S T → (xs : List Float) (v : Verdict) (ls ls′ : List ℤ) (w w′ : List ℕ) → Quantised T xs v ls ls′ w w′
     → Quantised S xs v ls ls′ w w′
-quantise-alike S T st xs v ls ls′ w w′ q = cases (settingFits S) (λ y. subst (λ (X : Choice). Quantised X xs v ls ls′ w w′) (st .same y) q) unfit
+quantise-alike S T st xs v ls ls′ w w′ q = cases (settingFits S) (λ y. subst (λ (X : Setting). Quantised X xs v ls ls′ w w′) (st .same y) q) unfit
   where
     unfit : settingFits S ≡ false → Quantised S xs v ls ls′ w w′
     unfit n =

@@ -7,19 +7,19 @@ use native.Mathlib.Omega.{arith}
 use lib.Dec.{eqb}
 use lib.Ieee.{Float}
 use Rattle.counting.proofs.Searches.{cases}
-use Rattle.answers.specs.Paper.{Verdict, accepted, refused, Said, andThen, after}
-use Rattle.packed_word.specs.Packed.{bitAt}
+use Rattle.answers.specs.Paper.Answers.{Verdict, accepted, refused, Said, andThen, after}
+use Rattle.packed_word.specs.Paper.Packed.{bitAt}
 use Rattle.packed_word.proofs.Distances.{distance-le}
-use Rattle.matrix.specs.Code.{Matrix, failing}
-use Rattle.matrix.specs.Check.{checkOf}
-use Rattle.matrix.specs.Reading.{Accepted}
+use Rattle.matrix.specs.Paper.Code.{Matrix, failing}
+use Rattle.matrix.specs.Paper.Check.{checkOf}
+use Rattle.matrix.specs.Paper.PlainCheck.{Accepted}
 use Rattle.matrix.proofs.Rows.{failing-le}
-use Rattle.matrix.proofs.Reading.{accepted-is}
-use Rattle.syndrome.specs.Failing.{failingVerdict, failingOf}
-use Rattle.majority_logic.specs.OneStep.{stepWord, stepRounds, oneStepReport, oneStepVerdict, oneStepOf}
-use Rattle.quantiser_levels.specs.Samples.{Choice, settingFits, largest, hardBit}
+use Rattle.matrix.proofs.PlainCheck.{accepted-is}
+use Rattle.syndrome.specs.Paper.Failing.{failingVerdict, failingOf}
+use Rattle.majority_logic.specs.Paper.OneStep.{stepWord, stepRounds, oneStepReport, oneStepVerdict, oneStepOf}
+use Rattle.quantiser_levels.specs.Paper.Samples.{Setting, settingFits, largest, hardBit}
 use Rattle.quantiser_settings.proofs.Ranges.{fits-reads}
-use Rattle.iterative_core.specs.Iterative.{startOf, endFrom, reportAt, samplesVerdict, iterativeVerdict, iterativeOf}
+use Rattle.iterative_core.specs.Paper.Iterative.{startOf, endFrom, reportAt, samplesVerdict, iterativeVerdict, iterativeOf}
 use Rattle.iterative_rounds.proofs.Ends.{rounds-within}
 use Rattle.iterative_core.proofs.Changes.{changed-le}
 use Rattle.ffi_codes.specs.Codes.{Small}
@@ -61,7 +61,7 @@ unfolding oneStepOf oneStepVerdict
 one-step-small H w room = after-small (checkOf H) _ _ (λ e. report-small H (accepted-is H e) (bitAt w))
 
 -- iterative voting: its rounds are within the round limit
-pub iterative-small : (H : Matrix) (S : Choice) (xs : List Float) (b l : ℕ) → Small (iterativeOf H S xs b l)
+pub iterative-small : (H : Matrix) (S : Setting) (xs : List Float) (b l : ℕ) → Small (iterativeOf H S xs b l)
 unfolding iterativeOf iterativeVerdict samplesVerdict reportAt endFrom
 iterative-small H S xs b l =
     cases (settingFits S) (λ y. after-small (checkOf H) _ _ (fit y)) (λ n. rw n (six (checkOf H) _))

@@ -9,24 +9,24 @@ use lib.Ieee.{Float}
 use lib.ListN.{length}
 use borrow.Author.Tests.{eq-eqb, ne-eqb}
 use Rattle.counting.proofs.Searches.{cases}
-use Rattle.answers.specs.Paper.{Verdict, accepted, refused, Said, andThen}
-use Rattle.answers.specs.Answers.{saidOf}
+use Rattle.answers.specs.Paper.Answers.{Verdict, accepted, refused, Said, andThen}
+use Rattle.answers.specs.Paper.Enums.{saidOf}
 use Rattle.answers.specs.declared.Answer.{Answer}
-use Rattle.packed_word.specs.Packed.{bitAt}
+use Rattle.packed_word.specs.Paper.Packed.{bitAt}
 use Rattle.iterative_core.proofs.Changes.{changed-le}
-use Rattle.matrix.specs.Code.{Matrix, failing}
-use Rattle.matrix.specs.Check.{checkOf}
-use Rattle.matrix.specs.Reading.{Accepted}
-use Rattle.quantiser_levels.specs.Samples.{Choice, settingFits, hardBit}
-use Rattle.iterative_core.specs.Iterative.{startOf}
-use Rattle.session_record.specs.Record.{Course, Record, courseIn}
-use Rattle.session_asking.specs.Asked.{Held, openVerdict, stepVerdict}
-use Rattle.session.specs.Steps.{Left, courseFor, saysAt, openOf, steppedState, stepOf}
-use Rattle.session_record.specs.Sessions.{recordOf}
-use Rattle.session.specs.Leaving.{Leaves}
+use Rattle.matrix.specs.Paper.Code.{Matrix, failing}
+use Rattle.matrix.specs.Paper.Check.{checkOf}
+use Rattle.matrix.specs.Paper.PlainCheck.{Accepted}
+use Rattle.quantiser_levels.specs.Paper.Samples.{Setting, settingFits, hardBit}
+use Rattle.iterative_core.specs.Paper.Iterative.{startOf}
+use Rattle.session_record.specs.Paper.Record.{Course, Record, courseIn}
+use Rattle.session_asking.specs.Paper.Asked.{Held, openVerdict, stepVerdict}
+use Rattle.session.specs.Paper.Steps.{Left, courseFor, saysAt, openOf, steppedState, stepOf}
+use Rattle.session_record.specs.Paper.Sessions.{recordOf}
+use Rattle.session.specs.Paper.Call.{Leaves}
 use Rattle.session_record.specs.declared.Session.{Session}
-use Rattle.session_asking.proofs.Asking.{accepted-open, accepted-step}
-use Rattle.session.proofs.Leaving.{refused-open-keeps, refused-step-keeps, accepted-opens, accepted-steps}
+use Rattle.session_asking.proofs.Questions.{accepted-open, accepted-step}
+use Rattle.session.proofs.Kept.{refused-open-keeps, refused-step-keeps, accepted-opens, accepted-steps}
 use Rattle.ffi_codes.specs.Codes.{codeOf, Small}
 use Rattle.ffi_codes.specs.Records.{recordCells, cellsOf, writtenBy}
 use Rattle.ffi_codes.specs.Settings.{StandsFor}
@@ -48,7 +48,7 @@ says-small H a course k r z h =
       changed = omega (arith, changed-le H z r, a .sizes .n-most);
     }
 
-pub open-small : (H : Matrix) (S : Choice) (xs : List Float) (h : Held) → Small (openOf H S xs h .said)
+pub open-small : (H : Matrix) (S : Setting) (xs : List Float) (h : Held) → Small (openOf H S xs h .said)
 open-small H S xs h =
     verdict-cases (openVerdict H S xs h)
     (λ e. subst (λ (l : Left). Small (l .said)) (sym (accepted-opens H S xs h e))
@@ -69,10 +69,10 @@ six accepted = (6, 0, refl)
 six (refused k x) = (k, x, refl)
 
 -- a setting that stands for another opens alike
-pub open-alike : (H : Matrix) (S T : Choice) → StandsFor S T → (xs : List Float) (h : Held) → openOf H T xs h ≡ openOf H S xs h
+pub open-alike : (H : Matrix) (S T : Setting) → StandsFor S T → (xs : List Float) (h : Held) → openOf H T xs h ≡ openOf H S xs h
 unfolding openVerdict
 open-alike H S T st xs h =
-    cases (settingFits S) (λ y. ap (λ (X : Choice). openOf H X xs h) (st .same y))
+    cases (settingFits S) (λ y. ap (λ (X : Setting). openOf H X xs h) (st .same y))
     (λ n.
     let f = six (checkOf H) in
     let vT = unfit-verdict H T xs (length (h .word)) (length (h .levels)) (st .fits ∙ n) ∙ f .2 in

@@ -13,23 +13,23 @@ use lib.Dec.{eqb}
 use lib.IntN.{ℤ}
 use lib.Ieee.{Float}
 use lib.ListN.{length}
-use Rattle.answers.specs.Paper.{refusal, report, after, written}
-use Rattle.matrix.specs.Code.{Matrix}
-use Rattle.quantiser_levels.specs.Samples.{Choice, quantiseVerdict, levelsOf, hardWord}
-use Rattle.iterative_core.specs.Iterative.{iterativeVerdict, iterativeOf, iterativeWord, iterativeLevels}
-use Rattle.session_asking.specs.Asked.{Held}
-use Rattle.session.specs.Steps.{Left}
+use Rattle.answers.specs.Paper.Answers.{refusal, report, after, written}
+use Rattle.matrix.specs.Paper.Code.{Matrix}
+use Rattle.quantiser_levels.specs.Paper.Samples.{Setting, quantiseVerdict, levelsOf, hardWord}
+use Rattle.iterative_core.specs.Paper.Iterative.{iterativeVerdict, iterativeOf, iterativeWord, iterativeLevels}
+use Rattle.session_asking.specs.Paper.Asked.{Held}
+use Rattle.session.specs.Paper.Steps.{Left}
 use Rattle.ffi_codes.specs.Codes.{codeOf}
 use Rattle.ffi_codes.specs.Records.{recordCells, cellsOf, writtenBy}
 
 -- the quantiser: the code, the levels and the word, refused calls too
-pub record QuantisedAs (S : Choice) (xs : List Float) (r : ℕ) (ls ls′ : List ℤ) (w w′ : List ℕ) : Type 0 where
+pub record QuantisedAs (S : Setting) (xs : List Float) (r : ℕ) (ls ls′ : List ℤ) (w w′ : List ℕ) : Type 0 where
   pub answer : r ≡ codeOf (after (quantiseVerdict S xs (length ls) (length w)) (report 0 0 0 0))
   pub levels : ls′ ≡ written (quantiseVerdict S xs (length ls) (length w)) (levelsOf S xs) ls
   pub word : w′ ≡ written (quantiseVerdict S xs (length ls) (length w)) (hardWord xs) w
 
 -- iterative voting: the code, the word and the levels, refused calls too
-pub record DecodedAs (H : Matrix) (S : Choice) (xs : List Float) (r : ℕ) (w w′ : List ℕ) (ls ls′ : List ℤ) : Type 0 where
+pub record DecodedAs (H : Matrix) (S : Setting) (xs : List Float) (r : ℕ) (w w′ : List ℕ) (ls ls′ : List ℤ) : Type 0 where
   pub answer : r ≡ codeOf (iterativeOf H S xs (length w) (length ls))
   pub word : w′ ≡ written (iterativeVerdict H S xs (length w) (length ls)) (iterativeWord H S xs) w
   pub levels : ls′ ≡ written (iterativeVerdict H S xs (length w) (length ls)) (iterativeLevels H S xs) ls

@@ -10,16 +10,16 @@ use ffi_codes::turn_code;
 use matrix_check::Shape;
 ghost use mathlib.Core.Path.{_≡_};
 ghost use lib.ListN.{length};
-ghost use Rattle.answers.specs.Paper.{report, after, written};
-ghost use Rattle.matrix.specs.Code.{matrix};
-ghost use Rattle.matrix.specs.Check.{checkOf};
-ghost use Rattle.syndrome.specs.Failing.{failingOf};
-ghost use Rattle.majority_logic.specs.OneStep.{oneStepVerdict, oneStepOf, oneStepWord};
-ghost use Rattle.session_asking.specs.Asked.{lent};
-ghost use Rattle.session.specs.Steps.{openOf, stepOf};
+ghost use Rattle.answers.specs.Paper.Answers.{report, after, written};
+ghost use Rattle.matrix.specs.Paper.Code.{matrix};
+ghost use Rattle.matrix.specs.Paper.Check.{checkOf};
+ghost use Rattle.syndrome.specs.Paper.Failing.{failingOf};
+ghost use Rattle.majority_logic.specs.Paper.OneStep.{oneStepVerdict, oneStepOf, oneStepWord};
+ghost use Rattle.session_asking.specs.Paper.Asked.{lent};
+ghost use Rattle.session.specs.Paper.Steps.{openOf, stepOf};
 ghost use Rattle.ffi_codes.specs.Codes.{codeOf};
 ghost use Rattle.ffi_codes.specs.Records.{recordIn};
-ghost use Rattle.ffi_codes.specs.Settings.{choice};
+ghost use Rattle.ffi_codes.specs.Settings.{settingBy};
 ghost use Rattle.ffi.specs.Calls.{QuantisedAs, DecodedAs, onRecord, CalledAs};
 
 // Refusal 7: what a call answers that is lent another number of cells than a record's.
@@ -80,7 +80,7 @@ pub extern "C" fn mlgd_quantise(
     levels: &mut [i8],
     word: &mut [u8],
 ) -> u64
-    ensures { λ r. ⌜ QuantisedAs (choice bits limit kind step) (now (samples .entry)) r (now (levels .entry)) (now (levels .exit)) (now (word .entry)) (now (word .exit)) ⌝ }
+    ensures { λ r. ⌜ QuantisedAs (settingBy bits limit kind step) (now (samples .entry)) r (now (levels .entry)) (now (levels .exit)) (now (word .entry)) (now (word .exit)) ⌝ }
 {
     let a = quantiser::quantise(setting_of(bits, limit, kind, step), samples, levels, word);
     checked_code(a)
@@ -102,7 +102,7 @@ pub extern "C" fn mlgd_iterative(
     word: &mut [u8],
     levels: &mut [i8],
 ) -> u64
-    ensures { λ r. ⌜ DecodedAs (matrix n m rho gamma (now (list .entry))) (choice bits limit kind step) (now (samples .entry)) r (now (word .entry)) (now (word .exit)) (now (levels .entry)) (now (levels .exit)) ⌝ }
+    ensures { λ r. ⌜ DecodedAs (matrix n m rho gamma (now (list .entry))) (settingBy bits limit kind step) (now (samples .entry)) r (now (word .entry)) (now (word .exit)) (now (levels .entry)) (now (levels .exit)) ⌝ }
 {
     let shape = Shape { n, m, rho, gamma };
     let a = iterative::iterative(
@@ -133,7 +133,7 @@ pub extern "C" fn mlgd_open(
     word: &mut [u8],
     levels: &mut [i8],
 ) -> u64
-    ensures { λ r. ⌜ CalledAs (onRecord (now (cells .entry)) (openOf (matrix n m rho gamma (now (list .entry))) (choice bits limit kind step) (now (samples .entry)) (lent (recordIn (now (cells .entry))) (now (word .entry)) (now (levels .entry)))) (lent (recordIn (now (cells .entry))) (now (word .entry)) (now (levels .entry)))) r (now (cells .entry)) (now (cells .exit)) (now (word .exit)) (now (levels .exit)) ⌝ }
+    ensures { λ r. ⌜ CalledAs (onRecord (now (cells .entry)) (openOf (matrix n m rho gamma (now (list .entry))) (settingBy bits limit kind step) (now (samples .entry)) (lent (recordIn (now (cells .entry))) (now (word .entry)) (now (levels .entry)))) (lent (recordIn (now (cells .entry))) (now (word .entry)) (now (levels .entry)))) r (now (cells .entry)) (now (cells .exit)) (now (word .exit)) (now (levels .exit)) ⌝ }
 {
     if cells.len() != RECORD_CELLS {
         return NO_RECORD;

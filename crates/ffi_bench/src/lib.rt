@@ -5,11 +5,11 @@ use answers::Answer;
 use ffi_codes::answer_code;
 use matrix_check::Shape;
 ghost use mathlib.Core.Path.{_≡_};
-ghost use Rattle.counting.specs.Lists.{over};
-ghost use Rattle.packed_word.specs.Packed.{bitAt};
-ghost use Rattle.matrix.specs.Code.{matrix};
-ghost use Rattle.majority_logic.specs.OneStep.{oneStepReport, oneStepWord};
-ghost use Rattle.one_step_core.specs.Stepped.{Lent};
+ghost use Rattle.counting.specs.Paper.Lists.{over};
+ghost use Rattle.packed_word.specs.Paper.Packed.{bitAt};
+ghost use Rattle.matrix.specs.Paper.Code.{matrix};
+ghost use Rattle.majority_logic.specs.Paper.OneStep.{oneStepReport, oneStepWord};
+ghost use Rattle.one_step_core.specs.Stepped.{VoteLent};
 ghost use Rattle.ffi_codes.specs.Codes.{codeOf};
 
 // One-step voting on an accepted matrix, a word and a buffer that suit it.
@@ -23,7 +23,7 @@ pub extern "C" fn mlgd_one_step_accepted(
     received: &[u8],
     word: &mut [u8],
 ) -> u64
-    requires { ⌜ Lent (matrix n m rho gamma (now list)) (now received) (now word) ⌝ }
+    requires { ⌜ VoteLent (matrix n m rho gamma (now list)) (now received) (now word) ⌝ }
     ensures answer { λ r. ⌜ r ≡ codeOf (oneStepReport (matrix n m rho gamma (now (list .entry))) (bitAt (now (received .entry)))) ⌝ }
     ensures word { λ r. ⌜ now (word .exit) ≡ over (oneStepWord (matrix n m rho gamma (now (list .entry))) (now (received .entry))) (now (word .entry)) ⌝ }
 {

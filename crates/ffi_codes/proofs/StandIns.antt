@@ -5,8 +5,8 @@ use Prim.Native.Nat.{ℕ, _<_}
 use lib.Ieee.{Float, binary32, ofBits, ofFields, odd, le}
 use borrow.Author.Tests.{lt-leb}
 use Rattle.counting.proofs.Searches.{never}
-use Rattle.quantiser_levels.specs.Samples.{rangesFit, stepFits, settingFits}
-use Rattle.ffi_codes.specs.Settings.{choice, StandsFor}
+use Rattle.quantiser_levels.specs.Paper.Samples.{rangesFit, stepFits, settingFits}
+use Rattle.ffi_codes.specs.Settings.{settingBy, StandsFor}
 
 -- a test that fails makes a conjunction fail
 and-none : (a : Bool) → (a && false) ≡ false
@@ -14,28 +14,28 @@ and-none true = refl
 and-none false = refl
 
 -- a step of another kind
-pub other-kind : (bits limit kind : ℕ) (step : Float) → 1 < kind → settingFits (choice bits limit kind step) ≡ false
+pub other-kind : (bits limit kind : ℕ) (step : Float) → 1 < kind → settingFits (settingBy bits limit kind step) ≡ false
 unfolding settingFits
 other-kind bits limit kind step h =
     rw (lt-leb kind 1 h, and-none (rangesFit bits limit))
 
 -- and the step 0 that stands for it
-pub zero-step : (bits limit : ℕ) → settingFits (choice bits limit 0 (ofBits binary32 0)) ≡ false
+pub zero-step : (bits limit : ℕ) → settingFits (settingBy bits limit 0 (ofBits binary32 0)) ≡ false
 unfolding settingFits stepFits le ofBits ofFields odd
 zero-step bits limit = rw (and-none (rangesFit bits limit))
 
 -- the program's setting for each kind
-pub stands-level : (bits limit kind : ℕ) (step : Float) → kind ≡ 0 → StandsFor (choice bits limit kind step) (choice bits limit 0 step)
+pub stands-level : (bits limit kind : ℕ) (step : Float) → kind ≡ 0 → StandsFor (settingBy bits limit kind step) (settingBy bits limit 0 step)
 stands-level bits limit kind step e =
-    let q : choice bits limit 0 step ≡ choice bits limit kind step = ap (λ (k : ℕ). choice bits limit k step) (sym e) in
+    let q : settingBy bits limit 0 step ≡ settingBy bits limit kind step = ap (λ (k : ℕ). settingBy bits limit k step) (sym e) in
     record { fits = ap settingFits q; same = λ y. q }
 
-pub stands-scale : (bits limit kind : ℕ) (step : Float) → kind ≡ 1 → StandsFor (choice bits limit kind step) (choice bits limit 1 step)
+pub stands-scale : (bits limit kind : ℕ) (step : Float) → kind ≡ 1 → StandsFor (settingBy bits limit kind step) (settingBy bits limit 1 step)
 stands-scale bits limit kind step e =
-    let q : choice bits limit 1 step ≡ choice bits limit kind step = ap (λ (k : ℕ). choice bits limit k step) (sym e) in
+    let q : settingBy bits limit 1 step ≡ settingBy bits limit kind step = ap (λ (k : ℕ). settingBy bits limit k step) (sym e) in
     record { fits = ap settingFits q; same = λ y. q }
 
-pub stands-none : (bits limit kind : ℕ) (step : Float) → 1 < kind → StandsFor (choice bits limit kind step) (choice bits limit 0 (ofBits binary32 0))
+pub stands-none : (bits limit kind : ℕ) (step : Float) → 1 < kind → StandsFor (settingBy bits limit kind step) (settingBy bits limit 0 (ofBits binary32 0))
 stands-none bits limit kind step h =
     record {
       fits = zero-step bits limit ∙ sym (other-kind bits limit kind step h);

@@ -5,7 +5,7 @@
 --   Room r f c == so do these three numbers
 -- Assumes nothing.
 use Prim.Native.Nat.{ℕ, _+_, _*_, _<_}
-use Rattle.answers.specs.Paper.{Said, refusal, report}
+use Rattle.answers.specs.Paper.Answers.{Said, refusal, report}
 
 abbrev pub codeOf : Said → ℕ
 codeOf (refusal k x) = k * 65536 + x

@@ -7,10 +7,10 @@
 use Prim.Native.Nat.{ℕ}
 use mathlib.Core.List.{List, [], _∷_}
 use lib.ListN.{getD}
-use Rattle.counting.specs.Lists.{over}
-use Rattle.answers.specs.Paper.{Said, refusal, report}
-use Rattle.session_record.specs.Record.{Record}
-use Rattle.session_record.specs.Sessions.{knownState}
+use Rattle.counting.specs.Paper.Lists.{over}
+use Rattle.answers.specs.Paper.Answers.{Said, refusal, report}
+use Rattle.session_record.specs.Paper.Record.{Record}
+use Rattle.session_record.specs.Paper.Sessions.{knownState}
 
 -- one cell for each number of a record
 abbrev pub recordCells : ℕ

@@ -14,14 +14,14 @@ use session_record::state_of;
 ghost use mathlib.Core.Path.{_≡_};
 ghost use Prim.Native.Nat.{_+_, _*_, _≤_};
 ghost use lib.ListN.{length};
-ghost use Rattle.answers.specs.Paper.{report, after};
-ghost use Rattle.answers.specs.Answers.{numberOf, placeOf, reportOf, saidOf, verdictOf, countedOf};
-ghost use Rattle.counting.specs.Lists.{over};
-ghost use Rattle.quantiser_settings.specs.Settings.{choiceOf};
-ghost use Rattle.session_record.specs.Sessions.{recordOf};
+ghost use Rattle.answers.specs.Paper.Answers.{report, after};
+ghost use Rattle.answers.specs.Paper.Enums.{numberOf, placeOf, reportOf, saidOf, verdictOf, countedOf};
+ghost use Rattle.counting.specs.Paper.Lists.{over};
+ghost use Rattle.quantiser_settings.specs.Paper.Settings.{settingOf};
+ghost use Rattle.session_record.specs.Paper.Sessions.{recordOf};
 ghost use Rattle.ffi_codes.specs.Codes.{codeOf, Small};
 ghost use Rattle.ffi_codes.specs.Records.{recordCells, recordIn, cellsOf, writtenBy};
-ghost use Rattle.ffi_codes.specs.Settings.{choice, StandsFor};
+ghost use Rattle.ffi_codes.specs.Settings.{settingBy, StandsFor};
 
 // A refusal: its number and its place.
 fn refusal_code(f: Refusal) -> u64
@@ -84,7 +84,7 @@ pub const RECORD_CELLS: usize = 8;
 
 // The setting of a kind of step and a step. A third kind is given a step that is out of range, so that it is refused as 6 too.
 pub fn setting_of(bits: u16, limit: u16, kind: u16, step: f32) -> Setting
-    ensures { λ r. ⌜ StandsFor (choice bits limit kind step) (choiceOf r) ⌝ }
+    ensures { λ r. ⌜ StandsFor (settingBy bits limit kind step) (settingOf r) ⌝ }
 {
     if kind == 0 {
         return Setting {

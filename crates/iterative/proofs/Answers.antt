@@ -8,11 +8,11 @@ use native.Mathlib.Decide.{ℕ-discrete}
 use native.Mathlib.Omega.{arith}
 use borrow.Author.Tests.{eq-eqb, ne-eqb}
 use lib.Ieee.{Float}
-use Rattle.answers.specs.Paper.{Verdict, accepted, refused, Said, refusal, report, outcomeBy, after}
-use Rattle.matrix.specs.Code.{Matrix, failing}
-use Rattle.quantiser_levels.specs.Samples.{Choice, largest, hardBit}
-use Rattle.iterative_core.specs.Iterative.{startOf, changedBits, endFrom, reportAt, iterativeVerdict, iterativeOf}
-use Rattle.iterative_rounds.specs.Stages.{Promised}
+use Rattle.answers.specs.Paper.Answers.{Verdict, accepted, refused, Said, refusal, report, outcomeBy, after}
+use Rattle.matrix.specs.Paper.Code.{Matrix, failing}
+use Rattle.quantiser_levels.specs.Paper.Samples.{Setting, largest, hardBit}
+use Rattle.iterative_core.specs.Paper.Iterative.{startOf, changedBits, endFrom, reportAt, iterativeVerdict, iterativeOf}
+use Rattle.iterative_rounds.specs.Paper.Ends.{Promised}
 use Rattle.iterative_rounds.proofs.Ends.{rounds-within, fails-at-limit}
 
 -- ---- an outcome by the failing checks
@@ -43,12 +43,13 @@ said-report : (v : Verdict) (a : Said) (o k f c : ℕ) → after v a ≡ report 
 said-report accepted a o k f c e = e
 said-report (refused x y) a o k f c e = absurd (no-report x y o k f c e)
 
-pub answer-promised : (H : Matrix) (S : Choice) (xs : List Float) (bytes levels o k f c : ℕ) → iterativeOf H S xs bytes levels ≡ report o k f c
+pub answer-promised : (H : Matrix) (S : Setting) (xs : List Float) (bytes levels o k f c : ℕ) → iterativeOf H S xs bytes levels ≡ report o k f c
     → Promised (S .limit) o k f
 unfolding iterativeOf reportAt endFrom
 answer-promised H S xs bytes levels o k f c e =
     let at-end = endFrom H S xs in
-    let q : report (outcomeBy (failing H (at-end .last .z))) (at-end .k) (failing H (at-end .last .z)) (changedBits H (at-end .last .z) (hardBit xs)) ≡ report o k f c =
+    let q : report (outcomeBy (failing H (at-end .last .z))) (at-end .k) (failing H (at-end .last .z))
+    (changedBits H (at-end .last .z) (hardBit xs)) ≡ report o k f c =
     said-report (iterativeVerdict H S xs bytes levels) (reportAt H (hardBit xs) at-end) o k f c e in
     let qo : outcomeBy (failing H (at-end .last .z)) ≡ o = cc in
     let qk : at-end .k ≡ k = cc in
@@ -58,7 +59,7 @@ answer-promised H S xs bytes levels o k f c e =
 
 -- ---- the same, one by one
 
-module _ (H : Matrix) (S : Choice) (xs : List Float) (bytes levels : ℕ) where
+module _ (H : Matrix) (S : Setting) (xs : List Float) (bytes levels : ℕ) where
   pub rounds-at-most-limit : (o k f c : ℕ) → iterativeOf H S xs bytes levels ≡ report o k f c → k ≤ S .limit
   rounds-at-most-limit o k f c e = answer-promised H S xs bytes levels o k f c e .within
 

@@ -6,12 +6,13 @@ use answers::Report;
 pub use iterative_core::iterative_accepted;
 use matrix_check::Shape;
 use quantiser::Setting;
-ghost use Rattle.answers.specs.Answers.{reportOf, saidOf};
-ghost use Rattle.matrix.specs.Reading.{Accepted};
-ghost use Rattle.matrix.specs.Shapes.{matrixOf};
-ghost use Rattle.quantiser_settings.specs.Settings.{choiceOf};
-ghost use Rattle.iterative_core.specs.Calls.{Lent, Decoded, Answered};
-ghost use Rattle.iterative_rule.specs.Claims.{IterativeRule, AmpleLimit};
+ghost use Rattle.answers.specs.Paper.Enums.{reportOf, saidOf};
+ghost use Rattle.matrix.specs.Paper.PlainCheck.{Accepted};
+ghost use Rattle.matrix.specs.Paper.Shapes.{matrixOf};
+ghost use Rattle.quantiser_settings.specs.Paper.Settings.{settingOf};
+ghost use Rattle.iterative_core.specs.Calls.{CallLent, Decoded};
+ghost use Rattle.iterative_core.specs.Paper.Call.{IterativeAnswered};
+ghost use Rattle.iterative_rule.specs.Paper.Claims.{IterativeRule, AmpleLimit};
 
 // The core with an index made for this call.
 fn with_index(
@@ -22,8 +23,8 @@ fn with_index(
     word: &mut [u8],
     levels: &mut [i8],
 ) -> Report
-    requires { ⌜ Lent (matrixOf shape (now list)) (choiceOf setting) (now samples) (now word) (now levels) ⌝ }
-    ensures { λ r. ⌜ Decoded (matrixOf shape (now (list .entry))) (choiceOf setting) (now (samples .entry)) (reportOf r) (now (word .entry)) (now (word .exit)) (now (levels .entry)) (now (levels .exit)) ⌝ }
+    requires { ⌜ CallLent (matrixOf shape (now list)) (settingOf setting) (now samples) (now word) (now levels) ⌝ }
+    ensures { λ r. ⌜ Decoded (matrixOf shape (now (list .entry))) (settingOf setting) (now (samples .entry)) (reportOf r) (now (word .entry)) (now (word .exit)) (now (levels .entry)) (now (levels .exit)) ⌝ }
 {
     let mut index = [0u16; 32736];
     matrix_index::build(shape, list, &mut index);
@@ -40,7 +41,7 @@ fn on_accepted(
     levels: &mut [i8],
 ) -> Answer
     requires { ⌜ Accepted (matrixOf shape (now list)) ⌝ }
-    ensures { λ r. ⌜ Answered (matrixOf shape (now (list .entry))) (choiceOf setting) (now (samples .entry)) (saidOf r) (now (word .entry)) (now (word .exit)) (now (levels .entry)) (now (levels .exit)) ⌝ }
+    ensures { λ r. ⌜ IterativeAnswered (matrixOf shape (now (list .entry))) (settingOf setting) (now (samples .entry)) (saidOf r) (now (word .entry)) (now (word .exit)) (now (levels .entry)) (now (levels .exit)) ⌝ }
 {
     let n = shape.n as usize;
     let asked = iterative_core::ask_samples(n, setting, samples, word.len(), levels.len());
@@ -59,9 +60,9 @@ pub fn iterative(
     word: &mut [u8],
     levels: &mut [i8],
 ) -> Answer
-    ensures answer { λ r. ⌜ Answered (matrixOf shape (now (list .entry))) (choiceOf setting) (now (samples .entry)) (saidOf r) (now (word .entry)) (now (word .exit)) (now (levels .entry)) (now (levels .exit)) ⌝ }
-    ensures flipping_rule { λ r. ⌜ IterativeRule (matrixOf shape (now (list .entry))) (choiceOf setting) (now (samples .entry)) (now (word .entry)) (now (word .exit)) (now (levels .entry)) (saidOf r) ⌝ }
-    ensures ample_limit { λ r. ⌜ AmpleLimit (matrixOf shape (now (list .entry))) (choiceOf setting) (now (samples .entry)) (now (word .entry)) (now (word .exit)) (now (levels .entry)) (saidOf r) ⌝ }
+    ensures answer { λ r. ⌜ IterativeAnswered (matrixOf shape (now (list .entry))) (settingOf setting) (now (samples .entry)) (saidOf r) (now (word .entry)) (now (word .exit)) (now (levels .entry)) (now (levels .exit)) ⌝ }
+    ensures flipping_rule { λ r. ⌜ IterativeRule (matrixOf shape (now (list .entry))) (settingOf setting) (now (samples .entry)) (now (word .entry)) (now (word .exit)) (now (levels .entry)) (saidOf r) ⌝ }
+    ensures ample_limit { λ r. ⌜ AmpleLimit (matrixOf shape (now (list .entry))) (settingOf setting) (now (samples .entry)) (now (word .entry)) (now (word .exit)) (now (levels .entry)) (saidOf r) ⌝ }
 {
     match matrix_check::check(shape, list) {
         Checked::Accepted => on_accepted(shape, list, setting, samples, word, levels),

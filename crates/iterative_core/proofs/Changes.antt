@@ -8,18 +8,18 @@ use mathlib.Core.Path.{_≡_, sym, _∙_}
 use Prim.Native.Nat.{ℕ, _≤_, _<_}
 use native.Mathlib.Nat.{one-mul}
 use native.Mathlib.Omega.{arith}
-use Rattle.counting.specs.Sum.{differ}
+use Rattle.counting.specs.Paper.Sum.{unequal}
 use Rattle.counting.proofs.Sums.{sum-cong}
-use Rattle.packed_word.specs.Packed.{distance}
+use Rattle.packed_word.specs.Paper.Packed.{distance}
 use Rattle.packed_word.proofs.Distances.{distance-cong, distance-self, distance-le}
-use Rattle.matrix.specs.Code.{Matrix}
-use Rattle.iterative_core.specs.Iterative.{changedIn, changedBits}
+use Rattle.matrix.specs.Paper.Code.{Matrix}
+use Rattle.iterative_core.specs.Paper.Iterative.{changedIn, changedBits}
 
 module _ (H : Matrix) where
   -- every place counts
   pub changed-all : (z r : ℕ → ℕ) → changedBits H z r ≡ distance (H .n) z r
   unfolding changedBits changedIn distance
-  changed-all z r = sum-cong (H .n) (λ j l. one-mul (differ (z j) (r j)))
+  changed-all z r = sum-cong (H .n) (λ j l. one-mul (unequal (z j) (r j)))
 
   -- the bits below n alone are read
   pub changed-cong : {z z′ r r′ : ℕ → ℕ} → ((j : ℕ) → j < H .n → z j ≡ z′ j) → ((j : ℕ) → j < H .n → r j ≡ r′ j)

@@ -1,4 +1,4 @@
 pub mod Changes
-pub mod Finishing
-pub mod Asking
 pub mod Loans
+pub mod Questions
+pub mod Results

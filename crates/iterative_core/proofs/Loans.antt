@@ -12,19 +12,19 @@ use lib.IntN.{ℤ}
 use lib.Ieee.{Float}
 use lib.ListN.{length}
 use Rattle.counting.proofs.Searches.{first-le}
-use Rattle.answers.specs.Paper.{accepted}
+use Rattle.answers.specs.Paper.Answers.{accepted}
 use Rattle.answers.proofs.Verdicts.{passed, passed-on, lengths-fit}
-use Rattle.packed_word.specs.Packed.{bytesFor}
-use Rattle.matrix.specs.Code.{Matrix}
-use Rattle.matrix.specs.Reading.{Accepted}
-use Rattle.matrix.proofs.Reading.{accepted-is}
-use Rattle.quantiser_levels.specs.Samples.{Choice, settingFits, notFinite, firstNotFinite}
-use Rattle.iterative_core.specs.Iterative.{samplesVerdict, iterativeVerdict}
-use Rattle.iterative_core.specs.Calls.{Lent}
+use Rattle.packed_word.specs.Paper.Packed.{bytesFor}
+use Rattle.matrix.specs.Paper.Code.{Matrix}
+use Rattle.matrix.specs.Paper.PlainCheck.{Accepted}
+use Rattle.matrix.proofs.PlainCheck.{accepted-is}
+use Rattle.quantiser_levels.specs.Paper.Samples.{Setting, settingFits, notFinite, firstNotFinite}
+use Rattle.iterative_core.specs.Paper.Iterative.{samplesVerdict, iterativeVerdict}
+use Rattle.iterative_core.specs.Calls.{CallLent}
 
-module _ (H : Matrix) (S : Choice) (xs : List Float) (w : List ℕ) (ls : List ℤ) where
+module _ (H : Matrix) (S : Setting) (xs : List Float) (w : List ℕ) (ls : List ℤ) where
   -- each of the refusals 6 to 8 is passed
-  pub samples-lent : Accepted H → samplesVerdict (H .n) S xs (length w) (length ls) ≡ accepted → Lent H S xs w ls
+  pub samples-lent : Accepted H → samplesVerdict (H .n) S xs (length w) (length ls) ≡ accepted → CallLent H S xs w ls
   unfolding samplesVerdict
   samples-lent a e =
       let p6 = passed (not (settingFits S)) 6 0 _ e in
@@ -36,11 +36,11 @@ module _ (H : Matrix) (S : Choice) (xs : List Float) (w : List ℕ) (ls : List �
         matrix = a;
         setting = not-false (settingFits S) (p6 .0);
         samples = fit .0;
-        finite = le-antisymm (first-le (notFinite xs) (length xs)) none;
+        each-finite = le-antisymm (first-le (notFinite xs) (length xs)) none;
         room-word = fit .1;
         room-levels = fit .2;
       }
 
-  pub verdict-lent : iterativeVerdict H S xs (length w) (length ls) ≡ accepted → Lent H S xs w ls
+  pub verdict-lent : iterativeVerdict H S xs (length w) (length ls) ≡ accepted → CallLent H S xs w ls
   unfolding iterativeVerdict
   verdict-lent e = let p5 = passed-on _ _ e in samples-lent (accepted-is H (p5 .0)) (p5 .1)

@@ -1,3 +1,3 @@
 -- What the contracts of `iterative_core` cite.
-pub mod Iterative
+pub mod Paper
 pub mod Calls

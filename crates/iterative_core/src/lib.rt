@@ -8,15 +8,15 @@ use quantiser::Setting;
 ghost use mathlib.Core.Path.{_≡_};
 ghost use Prim.Native.Nat.{_*_, _≤_};
 ghost use lib.ListN.{length, take};
-ghost use Rattle.answers.specs.Answers.{verdictOf, reportOf};
-ghost use Rattle.packed_word.specs.Packed.{bitAt, bytesFor, distance};
-ghost use Rattle.matrix.specs.Shapes.{matrixOf};
-ghost use Rattle.quantiser_levels.specs.Samples.{mostBits, largest};
-ghost use Rattle.quantiser_settings.specs.Settings.{choiceOf};
-ghost use Rattle.quantiser.specs.Filling.{Fillable};
+ghost use Rattle.answers.specs.Paper.Enums.{verdictOf, reportOf};
+ghost use Rattle.packed_word.specs.Paper.Packed.{bitAt, bytesFor, distance};
+ghost use Rattle.matrix.specs.Paper.Shapes.{matrixOf};
+ghost use Rattle.quantiser_levels.specs.Paper.Samples.{mostBits, largest};
+ghost use Rattle.quantiser_settings.specs.Paper.Settings.{settingOf};
+ghost use Rattle.quantiser.specs.Buffers.{Fillable};
 ghost use Rattle.matrix_index.specs.Index.{Indexed};
-ghost use Rattle.iterative_core.specs.Iterative.{samplesVerdict};
-ghost use Rattle.iterative_core.specs.Calls.{Lent, Started, Decoded};
+ghost use Rattle.iterative_core.specs.Paper.Iterative.{samplesVerdict};
+ghost use Rattle.iterative_core.specs.Calls.{CallLent, Started, Decoded};
 
 // L, the largest level of so many bits, by a name of the rounds. Only this repository's crates call it, with a width in range.
 pub fn middle_of(bits: u16) -> u8
@@ -36,7 +36,7 @@ pub fn ask_samples(
     room: usize,
 ) -> Checked
     requires { ⌜ n ≤ 1023 ⌝ }
-    ensures { λ r. ⌜ verdictOf r ≡ samplesVerdict n (choiceOf setting) (now (samples .entry)) bytes room ⌝ }
+    ensures { λ r. ⌜ verdictOf r ≡ samplesVerdict n (settingOf setting) (now (samples .entry)) bytes room ⌝ }
 {
     let need = (n + 7) / 8;
     if !quantiser::setting_fits(setting) {
@@ -71,8 +71,8 @@ fn start(
     bits: &mut [u8; 1023],
     kept: &mut [u8; 1023],
 )
-    requires { ⌜ Fillable (choiceOf setting) (now samples) (now levels) × (middle ≡ largest (setting .bits)) × (length (now kept) ≡ 1023) ⌝ }
-    ensures { λ _. ⌜ Started (choiceOf setting) (now (samples .entry)) (now (levels .entry)) (now (levels .exit)) (now (bits .exit)) (now (kept .exit)) ⌝ }
+    requires { ⌜ Fillable (settingOf setting) (now samples) (now levels) × (middle ≡ largest (setting .bits)) × (length (now kept) ≡ 1023) ⌝ }
+    ensures { λ _. ⌜ Started (settingOf setting) (now (samples .entry)) (now (levels .entry)) (now (levels .exit)) (now (bits .exit)) (now (kept .exit)) ⌝ }
 {
     let n = samples.len();
     quantiser::fill(setting, samples, levels, bits);
@@ -90,8 +90,8 @@ pub fn iterative_accepted(
     word: &mut [u8],
     levels: &mut [i8],
 ) -> Report
-    requires { ⌜ Lent (matrixOf shape (now list)) (choiceOf setting) (now samples) (now word) (now levels) × Indexed (matrixOf shape (now list)) (now index) ⌝ }
-    ensures { λ r. ⌜ Decoded (matrixOf shape (now (list .entry))) (choiceOf setting) (now (samples .entry)) (reportOf r) (now (word .entry)) (now (word .exit)) (now (levels .entry)) (now (levels .exit)) ⌝ }
+    requires { ⌜ CallLent (matrixOf shape (now list)) (settingOf setting) (now samples) (now word) (now levels) × Indexed (matrixOf shape (now list)) (now index) ⌝ }
+    ensures { λ r. ⌜ Decoded (matrixOf shape (now (list .entry))) (settingOf setting) (now (samples .entry)) (reportOf r) (now (word .entry)) (now (word .exit)) (now (levels .entry)) (now (levels .exit)) ⌝ }
 {
     let n = shape.n as usize;
     let limit = setting.limit;

@@ -8,8 +8,8 @@ use native.Mathlib.Omega.{arith}
 use borrow.Author.Tests.{lt-ltb, le-ltb, eq-eqb, ne-eqb}
 use lib.Dec.{ltb}
 use lib.IntN.{ℤ, pos, negsuc, negℤ, natAbs, subℕ, _+ℤ_}
-use Rattle.counting.specs.Sum.{flag}
-use Rattle.counting.specs.Integers.{cut, above}
+use Rattle.counting.specs.Paper.Sum.{flag}
+use Rattle.counting.specs.Paper.Integers.{cut, aboveZero}
 use Rattle.counting.proofs.Integers.{sub-ge, sub-lt, sub-sum}
 use Rattle.iterative_levels.specs.Levels.{biased, nextLevel, aboveMiddle}
 
@@ -68,13 +68,13 @@ next-one gamma L v z r e h =
 
 -- ---- the bit
 
-pub above-biased : (L : ℕ) (r : ℤ) → aboveMiddle L (biased L r) ≡ above r
+pub above-biased : (L : ℕ) (r : ℤ) → aboveMiddle L (biased L r) ≡ aboveZero r
 unfolding aboveMiddle
 above-biased L (pos zero) = ap flag (le-ltb L (L + 0) (omega arith))
 above-biased L (pos (suc k)) = ap flag (lt-ltb L (L + suc k) (omega arith))
 above-biased L (negsuc k) = ap flag (le-ltb L (L - suc k) (omega arith))
 
-pub above-bit : (r : ℤ) → above r < 2
+pub above-bit : (r : ℤ) → aboveZero r < 2
 above-bit (pos zero) = omega arith
 above-bit (pos (suc k)) = omega arith
 above-bit (negsuc k) = omega arith

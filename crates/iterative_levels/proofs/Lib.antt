@@ -1,3 +1,3 @@
 pub mod Levels
 pub mod Signs
-pub mod Passing
+pub mod Passes

@@ -16,7 +16,7 @@ use mathlib.Core.List.{List}
 use lib.Dec.{eqb, ltb}
 use lib.IntN.{ℤ, pos, negsuc, natAbs, subℕ}
 use lib.ListN.{length, getD}
-use Rattle.counting.specs.Sum.{flag}
+use Rattle.counting.specs.Paper.Sum.{flag}
 use Rattle.counting.specs.Places.{at}
 
 -- R + L, for R from -L on
@@ -30,21 +30,21 @@ unbiased L x j = subℕ (at x j) L
 
 -- a bit 0 rises by its failing checks, a bit 1 by its other checks
 unfoldable pub nextLevel : ℕ → ℕ → ℕ → ℕ → ℕ → ℕ
-nextLevel gamma top x z v = cond (eqb z 0) (min top (x + 2 * v - gamma)) (min top (x + gamma - 2 * v))
+nextLevel gamma ceiling x z v = cond (eqb z 0) (min ceiling (x + 2 * v - gamma)) (min ceiling (x + gamma - 2 * v))
 
 unfoldable pub aboveMiddle : ℕ → ℕ → ℕ
 aboveMiddle L x = flag (ltb L x)
 
-pub record Bounds (n gamma top : ℕ) : Type 0 where
+pub record Bounds (n gamma ceiling : ℕ) : Type 0 where
   pub columns : n ≤ 1023
   pub weight : gamma ≤ 255
-  pub levels : top ≤ 255
+  pub levels : ceiling ≤ 255
 
 -- the first n bits z and levels x become z′ and x′ by the votes v; the others stay
-pub record Moved (v : List ℕ) (n gamma L top : ℕ) (z x z′ x′ : List ℕ) : Type 0 where
+pub record Moved (v : List ℕ) (n gamma L ceiling : ℕ) (z x z′ x′ : List ℕ) : Type 0 where
   pub long-word : length z′ ≡ 1023
   pub long-levels : length x′ ≡ 1023
-  pub levels : (j : ℕ) → j < n → at x′ j ≡ nextLevel gamma top (at x j) (at z j) (at v j)
+  pub levels : (j : ℕ) → j < n → at x′ j ≡ nextLevel gamma ceiling (at x j) (at z j) (at v j)
   pub bits : (j : ℕ) → j < n → at z′ j ≡ aboveMiddle L (at x′ j)
   pub rest-word : (j : ℕ) → n ≤ j → at z′ j ≡ at z j
   pub rest-levels : (j : ℕ) → n ≤ j → at x′ j ≡ at x j

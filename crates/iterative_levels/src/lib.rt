@@ -5,37 +5,37 @@ ghost use mathlib.Core.Path.{_≡_};
 ghost use Prim.Native.Nat.{min, _+_, _-_, _*_, _<_, _≤_};
 ghost use lib.IntN.{natAbs, subℕ};
 ghost use lib.ListN.{length};
-ghost use Rattle.counting.specs.Lists.{listed, over};
+ghost use Rattle.counting.specs.Paper.Lists.{listed, over};
 ghost use Rattle.iterative_levels.specs.Levels.{biased, unbiased, nextLevel, aboveMiddle, Bounds, Moved, Bounded, Biased, Restorable};
 
 // x + plus - minus, cut to 0 and top.
-fn shifted(x: u16, plus: u16, minus: u16, top: u16) -> u16
+fn shifted(x: u16, plus: u16, minus: u16, ceiling: u16) -> u16
     requires { ⌜ x + plus < 65536 ⌝ }
-    ensures { λ r. ⌜ r ≡ min top (x + plus - minus) ⌝ }
+    ensures { λ r. ⌜ r ≡ min ceiling (x + plus - minus) ⌝ }
 {
     let up = x + plus;
     if up < minus {
         return 0;
     }
     let y = up - minus;
-    if y < top {
+    if y < ceiling {
         return y;
     }
-    top
+    ceiling
 }
 
 // The next level of a bit z with v failing checks of gamma: E is 2v - gamma where z is 0, gamma - 2v where it is 1.
-fn next_level(x: u8, z: u8, v: u8, gamma: u16, top: u16) -> u8
-    requires { ⌜ (gamma ≤ 255) × (top ≤ 255) ⌝ }
-    ensures { λ r. ⌜ r ≡ nextLevel gamma top x z v ⌝ }
+fn next_level(x: u8, z: u8, v: u8, gamma: u16, ceiling: u16) -> u8
+    requires { ⌜ (gamma ≤ 255) × (ceiling ≤ 255) ⌝ }
+    ensures { λ r. ⌜ r ≡ nextLevel gamma ceiling x z v ⌝ }
 {
     let level = x as u16;
     let twice = 2 * (v as u16);
     if z == 0 {
-        let y = shifted(level, twice, gamma, top);
+        let y = shifted(level, twice, gamma, ceiling);
         return y as u8;
     }
-    let y = shifted(level, gamma, twice, top);
+    let y = shifted(level, gamma, twice, ceiling);
     y as u8
 }
 
@@ -53,16 +53,16 @@ pub fn update(
     n: usize,
     gamma: u16,
     middle: u8,
-    top: u16,
+    ceiling: u16,
     bits: &mut [u8; 1023],
     levels: &mut [u8; 1023],
 )
-    requires { ⌜ Bounds n gamma top × (length (now bits) ≡ 1023) × (length (now levels) ≡ 1023) ⌝ }
-    ensures { λ _. ⌜ Moved (now (votes .entry)) n gamma middle top (now (bits .entry)) (now (levels .entry)) (now (bits .exit)) (now (levels .exit)) ⌝ }
+    requires { ⌜ Bounds n gamma ceiling × (length (now bits) ≡ 1023) × (length (now levels) ≡ 1023) ⌝ }
+    ensures { λ _. ⌜ Moved (now (votes .entry)) n gamma middle ceiling (now (bits .entry)) (now (levels .entry)) (now (bits .exit)) (now (levels .exit)) ⌝ }
 {
     let mut j = 0;
     while j < n {
-        let x = next_level(levels[j], bits[j], votes[j], gamma, top);
+        let x = next_level(levels[j], bits[j], votes[j], gamma, ceiling);
         levels[j] = x;
         bits[j] = is_above(x, middle);
         j += 1;

@@ -7,13 +7,14 @@ use native.Mathlib.Decide.{decLt, ℕ-discrete}
 use native.Mathlib.Omega.{arith}
 use borrow.Author.Tests.{eq-eqb, ne-eqb}
 use lib.IntN.{ℤ, natAbs, _+ℤ_}
-use Rattle.counting.specs.Integers.{cut, above}
+use Rattle.counting.specs.Paper.Integers.{cut, aboveZero}
 use Rattle.counting.proofs.Integers.{cut-bound}
-use Rattle.matrix.specs.Code.{Matrix, failing}
-use Rattle.matrix.specs.Reading.{Rows}
+use Rattle.matrix.specs.Paper.Code.{Matrix, failing}
+use Rattle.matrix.specs.Paper.PlainCheck.{Rows}
 use Rattle.matrix.proofs.Rows.{failing-cong}
-use Rattle.iterative_rounds.specs.Rounds.{State, levelAfter, roundOf, End, endOf, extrinsic}
-use Rattle.iterative_rounds.specs.Stages.{stateAt, EndsAt, Alike, AlikeEnds}
+use Rattle.iterative_rounds.specs.Paper.Rounds.{State, levelAfter, roundOf, End, endOf, extrinsic}
+use Rattle.iterative_rounds.specs.Paper.Ends.{stateAt, EndsAt}
+use Rattle.iterative_rounds.specs.Alike.{Alike, AlikeEnds}
 use Rattle.iterative_rounds.proofs.Extrinsic.{extrinsic-cong}
 
 -- an end
@@ -119,7 +120,7 @@ module _ (H : Matrix) (L : ℕ) where
     pub round-alike : (s t : State) → Alike (H .n) s t → Alike (H .n) (roundOf H L s) (roundOf H L t)
     unfolding roundOf
     round-alike s t a =
-        record { word = λ j l. ap above (level-alike s t a j l); levels = λ j l. level-alike s t a j l }
+        record { word = λ j l. ap aboveZero (level-alike s t a j l); levels = λ j l. level-alike s t a j l }
 
     pub states-alike : (s t : State) → Alike (H .n) s t → (k : ℕ) → Alike (H .n) (stateAt H L s k) (stateAt H L t k)
     unfolding stateAt

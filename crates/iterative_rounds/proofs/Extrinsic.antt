@@ -6,31 +6,31 @@ use native.Mathlib.Nat.{zero-mul}
 use native.Mathlib.Decide.{ℕ-discrete}
 use native.Mathlib.Omega.{arith}
 use lib.IntN.{pos, natAbs, subℕ, _*ℤ_, zero-*ℤ}
-use Rattle.counting.specs.Sum.{sum, same, differ}
+use Rattle.counting.specs.Paper.Sum.{sumBelow, same, unequal}
 use Rattle.counting.proofs.Sums.{sum-cong, sum-add, sum-mul, sum-mul-right, same-refl, same-ne, differ-eq, differ-ne}
 use Rattle.counting.proofs.Integers.{sumℤ-cong, sumℤ-difference, sumℤ-bound, abs-neg}
-use Rattle.matrix.specs.Code.{Matrix, entry, has, weight, fails}
-use Rattle.matrix.specs.Reading.{Rows, Accepted}
+use Rattle.matrix.specs.Paper.Code.{Matrix, entry, has, weight, fails}
+use Rattle.matrix.specs.Paper.PlainCheck.{Rows, Accepted}
 use Rattle.matrix.proofs.Rows.{has-le}
 use Rattle.matrix.proofs.Weights.{weight-equal}
-use Rattle.majority_logic.specs.Voting.{votes}
-use Rattle.iterative_rounds.specs.Rounds.{others, sign, extrinsic}
+use Rattle.majority_logic.specs.Paper.Votes.{votes}
+use Rattle.iterative_rounds.specs.Paper.Rounds.{others, sign, extrinsic}
 
 -- ---- a check's ones, without and with bit j
 
-split-at : (e j : ℕ) (z : ℕ → ℕ) → z e ≡ differ e j * z e + same e j * z j
+split-at : (e j : ℕ) (z : ℕ → ℕ) → z e ≡ unequal e j * z e + same e j * z j
 split-at e j z =
     elim (ℕ-discrete e j) [
       | yes q ↦ rw (differ-eq e j q, q, same-refl j) (omega arith)
       | no ne ↦ rw (differ-ne e j ne, same-ne e j ne) (omega arith)
     ]
 
-all-ones : (H : Matrix) (z : ℕ → ℕ) (i j : ℕ) → sum (H .rho) (λ k. z (entry H i k)) ≡ others H z i j + has H i j * z j
+all-ones : (H : Matrix) (z : ℕ → ℕ) (i j : ℕ) → sumBelow (H .rho) (λ k. z (entry H i k)) ≡ others H z i j + has H i j * z j
 unfolding others has
 all-ones H z i j =
     sum-cong (H .rho) (λ k l. split-at (entry H i k) j z)
-    ∙ sum-add (H .rho) (λ k. differ (entry H i k) j * z (entry H i k)) (λ k. same (entry H i k) j * z j)
-    ∙ ap (λ (x : ℕ). sum (H .rho) (λ k. differ (entry H i k) j * z (entry H i k)) + x) (sum-mul-right (H .rho) (z j) (λ k. same (entry H i k) j))
+    ∙ sum-add (H .rho) (λ k. unequal (entry H i k) j * z (entry H i k)) (λ k. same (entry H i k) j * z j)
+    ∙ ap (λ (x : ℕ). sumBelow (H .rho) (λ k. unequal (entry H i k) j * z (entry H i k)) + x) (sum-mul-right (H .rho) (z j) (λ k. same (entry H i k) j))
 
 fails-by : (H : Matrix) (z : ℕ → ℕ) (i j : ℕ) → fails H z i ≡ (others H z i j + has H i j * z j) % 2
 unfolding fails
@@ -64,7 +64,7 @@ part-one (suc (suc h)) o f l e = absurd (omega arith)
 -- ---- E by the votes
 
 module _ (H : Matrix) (r : Rows H) (z : ℕ → ℕ) (j : ℕ) where
-  twice : sum (H .m) (λ i. 2 * (has H i j * fails H z i)) ≡ 2 * votes H z j
+  twice : sumBelow (H .m) (λ i. 2 * (has H i j * fails H z i)) ≡ 2 * votes H z j
   unfolding votes
   twice = sum-mul (H .m) 2 (λ i. has H i j * fails H z i)
 
@@ -75,7 +75,7 @@ module _ (H : Matrix) (r : Rows H) (z : ℕ → ℕ) (j : ℕ) where
       sumℤ-difference (H .m) (λ i. 2 * (has H i j * fails H z i)) (λ i. has H i j)
       (λ i l. part-zero (has H i j) (others H z i j) (fails H z i) (has-le H r i j l)
       (fails-by H z i j ∙ ap (λ (b : ℕ). (others H z i j + has H i j * b) % 2) e))
-      ∙ ap (λ (x : ℕ). subℕ x (sum (H .m) (λ i. has H i j))) twice
+      ∙ ap (λ (x : ℕ). subℕ x (sumBelow (H .m) (λ i. has H i j))) twice
 
   -- a bit 1: a failing check of it says 0, and the others say 1
   pub extrinsic-one : z j ≡ 1 → extrinsic H z j ≡ subℕ (weight H j) (2 * votes H z j)
@@ -84,7 +84,7 @@ module _ (H : Matrix) (r : Rows H) (z : ℕ → ℕ) (j : ℕ) where
       sumℤ-difference (H .m) (λ i. has H i j) (λ i. 2 * (has H i j * fails H z i))
       (λ i l. part-one (has H i j) (others H z i j) (fails H z i) (has-le H r i j l)
       (fails-by H z i j ∙ ap (λ (b : ℕ). (others H z i j + has H i j * b) % 2) e))
-      ∙ ap (subℕ (sum (H .m) (λ i. has H i j))) twice
+      ∙ ap (subℕ (sumBelow (H .m) (λ i. has H i j))) twice
 
 -- ---- "So E lies from −γ to γ"
 
@@ -107,4 +107,4 @@ unfolding extrinsic others
 extrinsic-cong H r z c e j =
     sumℤ-cong (H .m)
     (λ i l. ap (λ (x : ℕ). pos (has H i j) *ℤ sign (x % 2))
-    (sum-cong (H .rho) (λ k h. ap (λ (x : ℕ). differ (entry H i k) j * x) (e (entry H i k) (r .below i k l h)))))
+    (sum-cong (H .rho) (λ k h. ap (λ (x : ℕ). unequal (entry H i k) j * x) (e (entry H i k) (r .below i k l h)))))

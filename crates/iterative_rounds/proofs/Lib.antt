@@ -1,4 +1,4 @@
 pub mod Extrinsic
 pub mod Ends
-pub mod Holding
-pub mod Running
+pub mod States
+pub mod Runs

@@ -1,4 +1,4 @@
 -- What the contracts of `iterative_rounds` cite.
-pub mod Rounds
-pub mod Stages
+pub mod Paper
 pub mod Runs
+pub mod Alike

@@ -12,10 +12,10 @@ use Prim.Native.Nat.{ℕ, _*_, _≤_, _<_}
 use lib.IntN.{natAbs}
 use lib.ListN.{length}
 use Rattle.counting.specs.Places.{at}
-use Rattle.matrix.specs.Code.{Matrix, Word, failing}
-use Rattle.matrix.specs.Reading.{Accepted}
+use Rattle.matrix.specs.Paper.Code.{Matrix, Word, failing}
+use Rattle.matrix.specs.Paper.PlainCheck.{Accepted}
 use Rattle.iterative_tally.specs.Parities.{Retallied}
-use Rattle.iterative_rounds.specs.Rounds.{State, state, End, endOf}
+use Rattle.iterative_rounds.specs.Paper.Rounds.{State, state, End, endOf}
 use Rattle.iterative_levels.specs.Levels.{biased, unbiased, Moved}
 
 unfoldable pub stateOf : ℕ → List ℕ → List ℕ → State

@@ -3,7 +3,7 @@
 use majority_votes::Stop;
 use matrix_check::Shape;
 ghost use Rattle.counting.specs.Places.{at};
-ghost use Rattle.matrix.specs.Shapes.{matrixOf};
+ghost use Rattle.matrix.specs.Paper.Shapes.{matrixOf};
 ghost use Rattle.matrix_index.specs.Index.{Indexed};
 ghost use Rattle.iterative_tally.specs.Parities.{Parities};
 ghost use Rattle.iterative_rounds.specs.Runs.{Ready, Rounded, Ran};
@@ -26,9 +26,9 @@ fn round(
 {
     let n = shape.n as usize;
     let gamma = shape.gamma;
-    let top = 2 * (middle as u16);
+    let ceiling = 2 * (middle as u16);
     let before = *bits;
-    iterative_levels::update(votes, n, gamma, middle, top, bits, levels);
+    iterative_levels::update(votes, n, gamma, middle, ceiling, bits, levels);
     iterative_tally::retally(shape, list, index, &before, bits, parity, votes)
 }
 

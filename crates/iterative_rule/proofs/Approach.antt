@@ -14,21 +14,21 @@ use native.Mathlib.Nat.{suc-mul}
 use native.Mathlib.Decide.{ℕ-discrete}
 use native.Mathlib.Omega.{arith}
 use lib.IntN.{ℤ, natAbs, _+ℤ_}
-use Rattle.counting.specs.Sum.{differ}
-use Rattle.counting.specs.Integers.{cut, above}
+use Rattle.counting.specs.Paper.Sum.{unequal}
+use Rattle.counting.specs.Paper.Integers.{cut, aboveZero}
 use Rattle.counting.proofs.Sums.{sum-le, differ-eq, differ-ne, differ-le}
-use Rattle.packed_word.specs.Packed.{distance}
-use Rattle.matrix.specs.Code.{Matrix, weight, Word, Codeword}
-use Rattle.matrix.specs.Reading.{Rows}
-use Rattle.majority_logic.specs.Voting.{votes}
+use Rattle.packed_word.specs.Paper.Packed.{distance}
+use Rattle.matrix.specs.Paper.Code.{Matrix, weight, Word, Codeword}
+use Rattle.matrix.specs.Paper.PlainCheck.{Rows}
+use Rattle.majority_logic.specs.Paper.Votes.{votes}
 use Rattle.majority_logic.proofs.Votes.{votes-kept, votes-changed}
 use Rattle.iterative_levels.specs.Levels.{biased}
 use Rattle.iterative_levels.proofs.Levels.{next-biased, above-bit}
-use Rattle.iterative_rounds.specs.Rounds.{State, levelAfter, roundOf}
-use Rattle.iterative_rounds.specs.Stages.{stateAt}
+use Rattle.iterative_rounds.specs.Paper.Rounds.{State, levelAfter, roundOf}
+use Rattle.iterative_rounds.specs.Paper.Ends.{stateAt}
 use Rattle.iterative_rounds.proofs.Extrinsic.{extrinsic-zero, extrinsic-one}
 use Rattle.iterative_rounds.proofs.Ends.{round-bound}
-use Rattle.iterative_rule.specs.Claims.{stride}
+use Rattle.iterative_rule.specs.Paper.Claims.{stride}
 use Rattle.iterative_rule.proofs.Sides.{above-high, above-low, high-above, low-above}
 
 -- ---- a level after a round
@@ -71,7 +71,7 @@ module _ (H : Matrix) (r : Rows H) (g : ℕ) (heavy : (j : ℕ) → j < H .n →
     unfolding distance
     nearing-closer = sum-le (H .n) each
       where
-        each : (j : ℕ) → j < H .n → differ (s .z j) (c j) ≤ differ (z₀ j) (c j)
+        each : (j : ℕ) → j < H .n → unequal (s .z j) (c j) ≤ unequal (z₀ j) (c j)
         each j l =
             elim (ℕ-discrete (z₀ j) (c j)) [
               | yes e ↦ omega (arith, differ-eq (s .z j) (c j) (i .kept j l e))
@@ -88,7 +88,7 @@ module _ (H : Matrix) (r : Rows H) (g : ℕ) (heavy : (j : ℕ) → j < H .n →
       wrong-votes ne = omega (arith, votes-changed H r c (s .z) cw nearing-word j l ne, nearing-closer)
 
       -- a right bit stays right
-      round-keeps : s .z j ≡ c j → above (levelAfter H L s j) ≡ c j
+      round-keeps : s .z j ≡ c j → aboveZero (levelAfter H L s j) ≡ c j
       unfolding Word
       round-keeps e =
           elim (ℕ-discrete (s .z j) 0) [
@@ -102,7 +102,7 @@ module _ (H : Matrix) (r : Rows H) (g : ℕ) (heavy : (j : ℕ) → j < H .n →
           ]
 
       -- a bit that is still wrong after the round has been moved by a stride
-      rises : above (levelAfter H L s j) ≡ 0 → c j ≡ 1 → suc k * stride g t ≤ biased L (levelAfter H L s j)
+      rises : aboveZero (levelAfter H L s j) ≡ 0 → c j ≡ 1 → suc k * stride g t ≤ biased L (levelAfter H L s j)
       rises e q =
           let ne : s .z j ≡ c j → ⊥ = λ p. omega (arith, round-keeps p) in
           let p : s .z j ≡ 0 = elim (ℕ-discrete (s .z j) 0) [ yes p ↦ p | no np ↦ absurd (ne (omega (arith, i .bit j l))) ] in
@@ -116,7 +116,7 @@ module _ (H : Matrix) (r : Rows H) (g : ℕ) (heavy : (j : ℕ) → j < H .n →
             heavy j l,
           )
 
-      falls : above (levelAfter H L s j) ≡ 1 → c j ≡ 0 → biased L (levelAfter H L s j) + suc k * stride g t ≤ 2 * L
+      falls : aboveZero (levelAfter H L s j) ≡ 1 → c j ≡ 0 → biased L (levelAfter H L s j) + suc k * stride g t ≤ 2 * L
       falls e q =
           let ne : s .z j ≡ c j → ⊥ = λ p. omega (arith, round-keeps p) in
           let p : s .z j ≡ 1 = elim (ℕ-discrete (s .z j) 0) [ yes p ↦ absurd (ne (p ∙ sym q)) | no np ↦ omega (arith, i .bit j l) ] in

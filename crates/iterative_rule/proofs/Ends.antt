@@ -1,4 +1,4 @@
--- Where iterative voting ends that starts near a codeword c: with c, within the rounds of specs/Claims.antt.
+-- Where iterative voting ends that starts near a codeword c: with c, within the rounds of specs/Paper/Claims.antt.
 --   rounds-far     == as many strides are more than L
 --   rounds-most    == the rounds are at most L / 2 + 1
 --   rounds-one     == with L = 1 they are 0 or 1
@@ -13,16 +13,16 @@ use native.Mathlib.Decide.{ℕ-discrete, decLt}
 use native.Mathlib.Omega.{arith}
 use borrow.Author.Tests.{eq-eqb, ne-eqb}
 use lib.Dec.{eqb}
-use Rattle.packed_word.specs.Packed.{distance}
+use Rattle.packed_word.specs.Paper.Packed.{distance}
 use Rattle.packed_word.proofs.Distances.{distance-cong, distance-self, distance-agree}
-use Rattle.matrix.specs.Code.{Matrix, weight, Word, failing, Codeword}
-use Rattle.matrix.specs.Reading.{Rows}
+use Rattle.matrix.specs.Paper.Code.{Matrix, weight, Word, failing, Codeword}
+use Rattle.matrix.specs.Paper.PlainCheck.{Rows}
 use Rattle.matrix.proofs.Rows.{failing-cong}
 use Rattle.majority_logic.proofs.Correction.{failing-unchanged, failing-changed}
-use Rattle.iterative_rounds.specs.Rounds.{State, End, endOf}
-use Rattle.iterative_rounds.specs.Stages.{stateAt}
+use Rattle.iterative_rounds.specs.Paper.Rounds.{State, End, endOf}
+use Rattle.iterative_rounds.specs.Paper.Ends.{stateAt}
 use Rattle.iterative_rounds.proofs.Ends.{end-state, earlier-fails, fails-at-limit}
-use Rattle.iterative_rule.specs.Claims.{stride, roundsFor, EndsRight}
+use Rattle.iterative_rule.specs.Paper.Claims.{stride, roundsFor, EndsRight}
 use Rattle.iterative_rule.proofs.Approach.{Nearing, nearing-closer, nearing-there, nearing}
 
 -- ---- the rounds

@@ -1,4 +1,4 @@
--- The flipping rule for iterative voting, on samples and bytes: the claims of specs/Claims.antt, for every call that is not refused.
+-- The flipping rule for iterative voting, on samples and bytes: the claims of specs/Paper/Claims.antt, for every call that is not refused.
 --   iterative-rule    == every codeword changed within the half is recovered where the round limit leaves the rounds for it
 --   ample-limit       == a limit of L / 2 + 1 leaves them
 --   one-round         == with b = 2 a limit of 1 does, and the rounds are those of one-step voting
@@ -16,28 +16,29 @@ use lib.Dec.{eqb}
 use lib.IntN.{ℤ}
 use lib.Ieee.{Float, nan}
 use lib.ListN.{length, getD}
-use Rattle.answers.specs.Paper.{Said, report, written}
-use Rattle.packed_word.specs.Packed.{bitAt}
+use Rattle.answers.specs.Paper.Answers.{Said, report, written}
+use Rattle.packed_word.specs.Paper.Packed.{bitAt}
 use Rattle.packed_word.proofs.Distances.{distance-cong, distance-sym}
-use Rattle.matrix.specs.Code.{Matrix, weight}
+use Rattle.matrix.specs.Paper.Code.{Matrix, weight}
 use Rattle.matrix.proofs.Weights.{weight-least}
-use Rattle.quantiser_levels.specs.Samples.{Choice, largest, levelOf, hardBit}
+use Rattle.quantiser_levels.specs.Paper.Samples.{Setting, largest, levelOf, hardBit}
 use Rattle.quantiser_settings.proofs.Ranges.{fits-reads, largest-some, level-bound, hard-bit-at}
 use Rattle.majority_logic.proofs.FlippingRule.{sent-codeword, pack-is}
 use Rattle.iterative_levels.specs.Levels.{biased}
 use Rattle.iterative_levels.proofs.Levels.{biased-le}
-use Rattle.iterative_core.specs.Iterative.{startOf, changedBits, endFrom, reportAt, iterativeVerdict, iterativeOf, iterativeWord}
-use Rattle.iterative_core.specs.Calls.{Lent}
+use Rattle.iterative_core.specs.Paper.Iterative.{startOf, changedBits, endFrom, reportAt, iterativeVerdict, iterativeOf, iterativeWord}
+use Rattle.iterative_core.specs.Calls.{CallLent}
 use Rattle.iterative_core.proofs.Changes.{changed-all}
 use Rattle.iterative_core.proofs.Loans.{verdict-lent}
-use Rattle.iterative_rule.specs.Claims.{wrongBits, stride, roundsFor, SamplesWithinHalf, EndsRight, IterativeRule, AmpleLimit, OneRound}
+use Rattle.iterative_rule.specs.Paper.Claims.{wrongBits, stride, roundsFor, SamplesWithinHalf, EndsRight, IterativeRule, AmpleLimit, OneRound}
 use Rattle.iterative_rule.proofs.Sides.{hard-high, hard-firm, hard-low}
 use Rattle.iterative_rule.proofs.Approach.{Nearing}
 use Rattle.iterative_rule.proofs.Ends.{rounds-most, rounds-one, end-right}
 
 -- ---- a call near a codeword
 
-module _ (H : Matrix) (S : Choice) (xs : List Float) (w : List ℕ) (ls : List ℤ) (c : List ℕ) (lent : Lent H S xs w ls) (h : SamplesWithinHalf H S c xs) where
+module _ (H : Matrix) (S : Setting) (xs : List Float) (w : List ℕ) (ls : List ℤ) (c : List ℕ) (lent : CallLent H S xs w ls)
+    (h : SamplesWithinHalf H S c xs) where
   abbrev L : ℕ
   L = largest (S .bits)
 
@@ -101,8 +102,9 @@ module _ (H : Matrix) (S : Choice) (xs : List Float) (w : List ℕ) (ls : List �
 -- ---- the claims
 
 -- iterative voting recovers every codeword changed within the half
-pub iterative-rule : (H : Matrix) (S : Choice) (xs : List Float) (old : List ℕ) (ls : List ℤ)
-    → IterativeRule H S xs old (written (iterativeVerdict H S xs (length old) (length ls)) (iterativeWord H S xs) old) ls (iterativeOf H S xs (length old) (length ls))
+pub iterative-rule : (H : Matrix) (S : Setting) (xs : List Float) (old : List ℕ) (ls : List ℤ)
+    → IterativeRule H S xs old (written (iterativeVerdict H S xs (length old) (length ls)) (iterativeWord H S xs) old) ls
+    (iterativeOf H S xs (length old) (length ls))
 unfolding iterativeOf
 iterative-rule H S xs old ls c e h time =
     let lent = verdict-lent H S xs old ls e in
@@ -117,7 +119,7 @@ iterative-rule H S xs old ls c e h time =
 
 -- ---- what follows for a limit that does not ask how many bits are wrong
 
-module _ (H : Matrix) (S : Choice) (xs : List Float) (old new : List ℕ) (ls : List ℤ) (said : Said) (rule : IterativeRule H S xs old new ls said) where
+module _ (H : Matrix) (S : Setting) (xs : List Float) (old new : List ℕ) (ls : List ℤ) (said : Said) (rule : IterativeRule H S xs old new ls said) where
   -- a limit of L / 2 + 1 leaves the rounds for it
   pub ample-limit : AmpleLimit H S xs old new ls said
   ample-limit c e h limit = rule c e h (omega (arith, rounds-most (largest (S .bits)) (H .gamma) (wrongBits H c xs)))

@@ -1,2 +1,2 @@
 -- The flipping rule for iterative voting.
-pub mod Claims
+pub mod Paper

@@ -1,2 +1,2 @@
-pub mod Turning
-pub mod Keeping
+pub mod Turns
+pub mod KeptParities

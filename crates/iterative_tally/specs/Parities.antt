@@ -1,6 +1,6 @@
 -- The parities of all checks, kept from one word to the next.
 --   Bits p                   == an array of parities, 0 or 1 each
---   Turned f p p′            == the parity at each place i is turned over f i times
+--   ParitiesTurned f p p′            == the parity at each place i is turned over f i times
 --   turns x from count a b   == how often a part of the index turns a row where a bit was a and is b
 --   flips x gamma a b n      == how often the columns below n turn a row where the word was a and is b
 --   Columns x n gamma        == the index holds a part of gamma rows for each column below n
@@ -12,9 +12,9 @@ use Prim.Native.Nat.{ℕ, _+_, _*_, _%_, _≤_, _<_}
 use mathlib.Core.Path.{_≡_}
 use mathlib.Core.List.{List}
 use lib.ListN.{length}
-use Rattle.counting.specs.Sum.{sum, differ}
+use Rattle.counting.specs.Paper.Sum.{sumBelow, unequal}
 use Rattle.counting.specs.Places.{at, among}
-use Rattle.matrix.specs.Code.{Matrix, fails}
+use Rattle.matrix.specs.Paper.Code.{Matrix, fails}
 use Rattle.syndrome.specs.Places.{Part, rowFails}
 use Rattle.majority_votes.specs.Tallies.{Tallied}
 
@@ -22,15 +22,15 @@ pub record Bits (p : List ℕ) : Type 0 where
   pub long : length p ≡ 1023
   pub bit : (i : ℕ) → at p i < 2
 
-pub record Turned (f : ℕ → ℕ) (p p′ : List ℕ) : Type 0 where
+pub record ParitiesTurned (f : ℕ → ℕ) (p p′ : List ℕ) : Type 0 where
   pub long : length p′ ≡ 1023
   pub each : (i : ℕ) → at p′ i ≡ (at p i + f i) % 2
 
 unfoldable pub turns : List ℕ → ℕ → ℕ → ℕ → ℕ → ℕ → ℕ
-turns x from count a b i = differ a b * among x from count i
+turns x from count a b i = unequal a b * among x from count i
 
 unfoldable pub flips : List ℕ → ℕ → (ℕ → ℕ) → (ℕ → ℕ) → ℕ → ℕ → ℕ
-flips x gamma a b n i = sum n (λ j. differ (a j) (b j) * among x (j * gamma) gamma i)
+flips x gamma a b n i = sumBelow n (λ j. unequal (a j) (b j) * among x (j * gamma) gamma i)
 
 pub record Columns (x : List ℕ) (n gamma : ℕ) : Type 0 where
   pub few : n ≤ 1023

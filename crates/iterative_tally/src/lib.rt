@@ -5,17 +5,17 @@ ghost use Prim.Native.Nat.{_*_, _≤_, _<_};
 ghost use mathlib.Core.Path.{_≡_};
 ghost use lib.ListN.{length};
 ghost use Rattle.counting.specs.Places.{at, among};
-ghost use Rattle.matrix.specs.Code.{Word};
-ghost use Rattle.matrix.specs.Reading.{Accepted};
-ghost use Rattle.matrix.specs.Shapes.{matrixOf};
+ghost use Rattle.matrix.specs.Paper.Code.{Word};
+ghost use Rattle.matrix.specs.Paper.PlainCheck.{Accepted};
+ghost use Rattle.matrix.specs.Paper.Shapes.{matrixOf};
 ghost use Rattle.syndrome.specs.Places.{Part, Checks, Places};
 ghost use Rattle.matrix_index.specs.Index.{Indexed};
-ghost use Rattle.iterative_tally.specs.Parities.{Bits, Turned, turns, flips, Columns, RowParities, Parities, Retallied};
+ghost use Rattle.iterative_tally.specs.Parities.{Bits, ParitiesTurned, turns, flips, Columns, RowParities, Parities, Retallied};
 
 // Turns over the parity at each of `count` row numbers of the index.
 fn turn_checks(index: &[u16], from: usize, count: usize, parity: &mut [u8; 1023])
     requires { ⌜ Part (now index) from count × Bits (now parity) ⌝ }
-    ensures { λ _. ⌜ Turned (among (now (index .entry)) from count) (now (parity .entry)) (now (parity .exit)) ⌝ }
+    ensures { λ _. ⌜ ParitiesTurned (among (now (index .entry)) from count) (now (parity .entry)) (now (parity .exit)) ⌝ }
 {
     let mut k = 0;
     while k < count {
@@ -28,7 +28,7 @@ fn turn_checks(index: &[u16], from: usize, count: usize, parity: &mut [u8; 1023]
 // The same where a bit was a and is b: nothing, if it stays.
 fn turn_bit(index: &[u16], from: usize, count: usize, a: u8, b: u8, parity: &mut [u8; 1023])
     requires { ⌜ Part (now index) from count × Bits (now parity) ⌝ }
-    ensures { λ _. ⌜ Turned (turns (now (index .entry)) from count a b) (now (parity .entry)) (now (parity .exit)) ⌝ }
+    ensures { λ _. ⌜ ParitiesTurned (turns (now (index .entry)) from count a b) (now (parity .entry)) (now (parity .exit)) ⌝ }
 {
     if a == b {
         return;
@@ -46,7 +46,7 @@ fn turn_flipped(
     parity: &mut [u8; 1023],
 )
     requires { ⌜ Columns (now index) n gamma × Bits (now parity) ⌝ }
-    ensures { λ _. ⌜ Turned (flips (now (index .entry)) gamma (at (now (before .entry))) (at (now (bits .entry))) n) (now (parity .entry)) (now (parity .exit)) ⌝ }
+    ensures { λ _. ⌜ ParitiesTurned (flips (now (index .entry)) gamma (at (now (before .entry))) (at (now (bits .entry))) n) (now (parity .entry)) (now (parity .exit)) ⌝ }
 {
     let mut j = 0;
     while j < n {

@@ -1,1 +1,1 @@
-pub mod Flipping
+pub mod Flips

@@ -7,7 +7,7 @@ use Prim.Native.Nat.{ℕ, _*_, _<_, _≤_}
 use lib.Dec.{ltb}
 use lib.ListN.{length}
 use Rattle.counting.specs.Places.{at}
-use Rattle.majority_logic.specs.Voting.{flipWhen}
+use Rattle.majority_logic.specs.Paper.Votes.{flipWhen}
 
 -- "each bit for which more than half of its γ checks fail is flipped"; the cells beyond stay
 pub record Voted (n gamma : ℕ) (v old new : List ℕ) : Type 0 where

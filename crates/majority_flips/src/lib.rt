@@ -6,7 +6,7 @@ ghost use Prim.Native.Nat.{ℕ, _*_, _<_, _≤_};
 ghost use lib.Dec.{ltb};
 ghost use lib.ListN.{length};
 ghost use Rattle.counting.specs.Places.{at};
-ghost use Rattle.majority_logic.specs.Voting.{flipWhen};
+ghost use Rattle.majority_logic.specs.Paper.Votes.{flipWhen};
 ghost use Rattle.majority_flips.specs.Flips.{Voted};
 
 // The bit b after the vote: turned over where more than half of its gamma checks fail, so that a tie keeps it.

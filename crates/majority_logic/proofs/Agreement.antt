@@ -4,11 +4,11 @@ use mathlib.Core.Bool.{cond}
 use Prim.Native.Nat.{ℕ, _*_, _<_}
 use lib.Dec.{ltb, eqb}
 use Rattle.counting.proofs.Sums.{sum-cong}
-use Rattle.matrix.specs.Code.{Matrix, has, weight}
-use Rattle.matrix.specs.Reading.{Rows}
+use Rattle.matrix.specs.Paper.Code.{Matrix, has, weight}
+use Rattle.matrix.specs.Paper.PlainCheck.{Rows}
 use Rattle.matrix.proofs.Rows.{fails-cong, failing-cong}
-use Rattle.majority_logic.specs.Voting.{votes, flipWhen, flipped}
-use Rattle.majority_logic.specs.OneStep.{stepWord, stepRounds}
+use Rattle.majority_logic.specs.Paper.Votes.{votes, flipWhen, flipped}
+use Rattle.majority_logic.specs.Paper.OneStep.{stepWord, stepRounds}
 
 module _ (H : Matrix) (r : Rows H) (z c : ℕ → ℕ) (agree : (j : ℕ) → j < H .n → z j ≡ c j) where
   pub votes-cong : (j : ℕ) → votes H z j ≡ votes H c j

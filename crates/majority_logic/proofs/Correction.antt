@@ -18,15 +18,15 @@ use lib.Dec.{ltb, eqb}
 use borrow.Author.Tests.{lt-ltb, le-ltb, eq-eqb, ne-eqb, eqb-true}
 use Rattle.counting.proofs.Sums.{sum-le, sum-zero}
 use Rattle.counting.proofs.Searches.{cases}
-use Rattle.answers.specs.Paper.{report}
-use Rattle.packed_word.specs.Packed.{distance}
+use Rattle.answers.specs.Paper.Answers.{report}
+use Rattle.packed_word.specs.Paper.Packed.{distance}
 use Rattle.packed_word.proofs.Distances.{distance-cong, distance-sym, distance-agree, distance-apart}
-use Rattle.matrix.specs.Code.{Matrix, has, weight, Word, fails, failing, Codeword}
-use Rattle.matrix.specs.Reading.{Rows, Accepted}
+use Rattle.matrix.specs.Paper.Code.{Matrix, has, weight, Word, fails, failing, Codeword}
+use Rattle.matrix.specs.Paper.PlainCheck.{Rows, Accepted}
 use Rattle.matrix.proofs.Rows.{has-le, clean-at, fails-bit, failing-cong}
 use Rattle.matrix.proofs.Weights.{weight-least, weight-small, weight-equal}
-use Rattle.majority_logic.specs.Voting.{votes, flipWhen, flipped}
-use Rattle.majority_logic.specs.OneStep.{stepWord, stepRounds, oneStepReport}
+use Rattle.majority_logic.specs.Paper.Votes.{votes, flipWhen, flipped}
+use Rattle.majority_logic.specs.Paper.OneStep.{stepWord, stepRounds, oneStepReport}
 use Rattle.majority_logic.proofs.Votes.{votes-kept, votes-changed}
 
 -- ---- votes

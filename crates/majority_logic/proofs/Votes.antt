@@ -7,31 +7,31 @@ use Prim.Native.Nat.{ℕ, zero, suc, _+_, _*_, _%_, _≤_, _<_}
 use native.Mathlib.Nat.{mul-le-mul, mul-le-mul-left, mul-le-mul-right, mul-pos, mul-assoc}
 use native.Mathlib.Decide.{ℕ-discrete}
 use native.Mathlib.Omega.{arith}
-use Rattle.counting.specs.Sum.{sum, same, differ}
+use Rattle.counting.specs.Paper.Sum.{sumBelow, same, unequal}
 use Rattle.counting.proofs.Sums.{sum-cong, sum-le, sum-add, sum-mul, sum-mul-right, sum-swap, sum-term, sum-one, sum-two, sum-pick}
 use Rattle.counting.proofs.Sums.{same-refl, same-ne, differ-eq, differ-ne}
-use Rattle.packed_word.specs.Packed.{distance}
-use Rattle.matrix.specs.Code.{Matrix, entry, has, weight, common, Word, fails, Codeword}
-use Rattle.matrix.specs.Reading.{Rows}
+use Rattle.packed_word.specs.Paper.Packed.{distance}
+use Rattle.matrix.specs.Paper.Code.{Matrix, entry, has, weight, common, Word, fails, Codeword}
+use Rattle.matrix.specs.Paper.PlainCheck.{Rows}
 use Rattle.matrix.proofs.Rows.{has-le, row-sum, clean-at}
 use Rattle.matrix.proofs.Linear.{fails-differ}
-use Rattle.majority_logic.specs.Voting.{votes}
+use Rattle.majority_logic.specs.Paper.Votes.{votes}
 
 -- the number of rows that have both columns
 share : Matrix → ℕ → ℕ → ℕ
-share H j l = sum (H .m) (λ i. has H i j * has H i l)
+share H j l = sumBelow (H .m) (λ i. has H i j * has H i l)
 
 -- the changes in row i, of changes e
 hits : Matrix → (ℕ → ℕ) → ℕ → ℕ
-hits H e i = sum (H .rho) (λ k. e (entry H i k))
+hits H e i = sumBelow (H .rho) (λ k. e (entry H i k))
 
 -- the changes in the rows of column j
 touched : Matrix → (ℕ → ℕ) → ℕ → ℕ
-touched H e j = sum (H .m) (λ i. has H i j * hits H e i)
+touched H e j = sumBelow (H .m) (λ i. has H i j * hits H e i)
 
 -- the places at which a word differs from the codeword
 change : (ℕ → ℕ) → (ℕ → ℕ) → ℕ → ℕ
-change z c j = differ (z j) (c j)
+change z c j = unequal (z j) (c j)
 
 -- a factor that is 0 or 1
 zero-or-one : (x : ℕ) → x ≤ 1 → (x ≡ 0) ⊎ (x ≡ 1)
@@ -50,7 +50,7 @@ pos-right x zero h = omega arith
 pos-right x (suc y) h = omega arith
 
 -- the distance counts the changes
-distance-change : (n : ℕ) (z c : ℕ → ℕ) → distance n z c ≡ sum n (change z c)
+distance-change : (n : ℕ) (z c : ℕ → ℕ) → distance n z c ≡ sumBelow n (change z c)
 unfolding distance change
 distance-change n z c = refl
 
@@ -79,7 +79,7 @@ module _ (H : Matrix) (r : Rows H) where
       ))
 
   -- a change counts once for each row that its column shares with column j
-  touched-share : (e : ℕ → ℕ) (j : ℕ) → touched H e j ≡ sum (H .n) (λ l. share H j l * e l)
+  touched-share : (e : ℕ → ℕ) (j : ℕ) → touched H e j ≡ sumBelow (H .n) (λ l. share H j l * e l)
   unfolding touched hits share
   touched-share e j =
       sum-cong (H .m) (λ i h.
@@ -90,7 +90,7 @@ module _ (H : Matrix) (r : Rows H) where
       ∙ sum-mul-right (H .m) (e l) (λ i. has H i j * has H i l))
 
   -- so the rows of column j have its own change once each, and any other change at most once in all
-  touched-le : (e : ℕ → ℕ) (j : ℕ) → j < H .n → touched H e j + e j ≤ weight H j * e j + sum (H .n) e
+  touched-le : (e : ℕ → ℕ) (j : ℕ) → j < H .n → touched H e j + e j ≤ weight H j * e j + sumBelow (H .n) e
   touched-le e j hj =
       omega (
         arith,

@@ -1,4 +1,2 @@
 -- Majority-logic decoding in one step, and what is proved of it.
-pub mod Voting
-pub mod OneStep
-pub mod Claims
+pub mod Paper

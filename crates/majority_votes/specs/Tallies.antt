@@ -9,15 +9,15 @@ use mathlib.Core.Path.{_≡_}
 use mathlib.Core.List.{List}
 use Prim.Native.Nat.{ℕ, _+_, _*_, _<_, _≤_}
 use lib.ListN.{length}
-use Rattle.counting.specs.Sum.{sum}
+use Rattle.counting.specs.Paper.Sum.{sumBelow}
 use Rattle.counting.specs.Places.{at, among}
-use Rattle.matrix.specs.Code.{Matrix, failing}
+use Rattle.matrix.specs.Paper.Code.{Matrix, failing}
 use Rattle.syndrome.specs.Places.{Part}
-use Rattle.majority_logic.specs.Voting.{votes}
+use Rattle.majority_logic.specs.Paper.Votes.{votes}
 
 -- a column counted in the listed rows
 unfoldable pub ofRows : List ℕ → ℕ → List ℕ → ℕ → ℕ → ℕ
-ofRows l rho rows t j = sum t (λ q. among l (at rows q * rho) rho j)
+ofRows l rho rows t j = sumBelow t (λ q. among l (at rows q * rho) rho j)
 
 -- the listed rows
 pub record Parts (l : List ℕ) (rho : ℕ) (rows : List ℕ) (t : ℕ) : Type 0 where

@@ -3,9 +3,9 @@
 use matrix_check::Shape;
 use syndrome::failing_rows;
 ghost use Rattle.counting.specs.Places.{at, among};
-ghost use Rattle.matrix.specs.Code.{Word};
-ghost use Rattle.matrix.specs.Reading.{Accepted};
-ghost use Rattle.matrix.specs.Shapes.{matrixOf};
+ghost use Rattle.matrix.specs.Paper.Code.{Word};
+ghost use Rattle.matrix.specs.Paper.PlainCheck.{Accepted};
+ghost use Rattle.matrix.specs.Paper.Shapes.{matrixOf};
 ghost use Rattle.syndrome.specs.Places.{Part};
 ghost use Rattle.majority_votes.specs.Tallies.{ofRows, Room, Parts, More, Tallied};
 

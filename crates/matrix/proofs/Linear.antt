@@ -7,21 +7,21 @@
 use mathlib.Core.Path.{_≡_, refl, _∙_}
 use Prim.Native.Nat.{ℕ, zero, suc, _+_, _%_, _<_}
 use native.Mathlib.Omega.{arith}
-use Rattle.counting.specs.Sum.{sum, same, differ}
+use Rattle.counting.specs.Paper.Sum.{sumBelow, same, unequal}
 use Rattle.counting.proofs.Sums.{sum-cong, sum-add, sum-zero, same-sym, differ-bits, differ-le}
-use Rattle.matrix.specs.Code.{Matrix, entry, has, Word, fails, failing, Codeword}
-use Rattle.matrix.specs.Reading.{Rows}
+use Rattle.matrix.specs.Paper.Code.{Matrix, entry, has, Word, fails, failing, Codeword}
+use Rattle.matrix.specs.Paper.PlainCheck.{Rows}
 use Rattle.matrix.specs.Linear.{plus}
 use Rattle.matrix.proofs.Rows.{clean-at, fails-cong}
 
 -- a sum, modulo 2, of what is left modulo 2
-sum-mod : (k : ℕ) (f : ℕ → ℕ) → sum k (λ x. f x % 2) % 2 ≡ sum k f % 2
-unfolding sum
+sum-mod : (k : ℕ) (f : ℕ → ℕ) → sumBelow k (λ x. f x % 2) % 2 ≡ sumBelow k f % 2
+unfolding sumBelow
 sum-mod zero f = refl
 sum-mod (suc k) f = omega (arith, sum-mod k f)
 
 -- bits added modulo 2 give 1 where they differ
-plus-differ : (z c : ℕ → ℕ) (j : ℕ) → z j < 2 → c j < 2 → differ (z j) (c j) ≡ plus z c j
+plus-differ : (z c : ℕ → ℕ) (j : ℕ) → z j < 2 → c j < 2 → unequal (z j) (c j) ≡ plus z c j
 unfolding plus
 plus-differ z c j h l = omega (arith, differ-bits (z j) (c j) h l, differ-le (z j) (c j))
 
@@ -37,10 +37,10 @@ module _ (H : Matrix) (z c : ℕ → ℕ) where
       )
 
   -- a check fails for one of two words only where they differ at an odd number of its columns
-  pub fails-differ : Rows H → Word H z → Word H c → (i : ℕ) → i < H .m → fails H (λ j. differ (z j) (c j)) i ≡ (fails H z i + fails H c i) % 2
+  pub fails-differ : Rows H → Word H z → Word H c → (i : ℕ) → i < H .m → fails H (λ j. unequal (z j) (c j)) i ≡ (fails H z i + fails H c i) % 2
   unfolding Word
   fails-differ r zw cw i h =
-      fails-cong H r (λ j. differ (z j) (c j)) (plus z c) (λ j l. plus-differ z c j (zw j l) (cw j l)) i h ∙ fails-plus i
+      fails-cong H r (λ j. unequal (z j) (c j)) (plus z c) (λ j l. plus-differ z c j (zw j l) (cw j l)) i h ∙ fails-plus i
 
   -- the sum of two codewords is a codeword
   pub plus-codeword : Codeword H z → Codeword H c → Codeword H (plus z c)

@@ -2,10 +2,10 @@
 use Prim.Native.Nat.{ℕ, suc, _+_, _*_, _≤_, _<_}
 use native.Mathlib.Omega.{arith}
 use lib.ListN.{length}
-use Rattle.matrix.specs.Code.{Matrix, entry}
+use Rattle.matrix.specs.Paper.Code.{Matrix, entry}
 use Rattle.matrix.specs.Ordered.{Sized, Ordered}
 use Rattle.matrix.proofs.Rows.{few-entries, stands}
-use Rattle.matrix.proofs.Reading.{clear-below, clear-ascending}
+use Rattle.matrix.proofs.PlainCheck.{clear-below, clear-ascending}
 
 module _ {H : Matrix} (z : Sized H) where
   pub few : length (H .list) ≤ 32736

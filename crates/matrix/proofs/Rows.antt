@@ -5,14 +5,14 @@ use native.Mathlib.Nat.{mul-le-mul}
 use native.Mathlib.Omega.{arith}
 use lib.Arith.{digits-lt}
 use lib.ListN.{length, getD}
-use Rattle.counting.specs.Sum.{sum, same}
+use Rattle.counting.specs.Paper.Sum.{sumBelow, same}
 use Rattle.counting.proofs.Sums.{sum-zero, sum-bound, same-ne, sum-cong, sum-term, sum-pick, sum-flat, sum-swap, sum-mul-right, same-sym}
 use Rattle.counting.proofs.Ascending.{ascending-lt, ascending-once}
-use Rattle.matrix.specs.Code.{Matrix, entry, has, weight, common, fails, failing}
-use Rattle.matrix.specs.Reading.{Rows, Sizes}
+use Rattle.matrix.specs.Paper.Code.{Matrix, entry, has, weight, common, fails, failing}
+use Rattle.matrix.specs.Paper.PlainCheck.{Rows, Sizes}
 
 -- a column's weight counts it in the list
-pub weight-flat : (H : Matrix) (j : ℕ) → weight H j ≡ sum (H .m * H .rho) (λ p. same (getD (H .list) p 0) j)
+pub weight-flat : (H : Matrix) (j : ℕ) → weight H j ≡ sumBelow (H .m * H .rho) (λ p. same (getD (H .list) p 0) j)
 unfolding weight has entry
 weight-flat H j = sym (sum-flat (H .m) (H .rho) (λ p. same (getD (H .list) p 0) j))
 
@@ -59,7 +59,7 @@ module _ (H : Matrix) (r : Rows H) where
   has-le i j l = ascending-once (entry H i) (H .rho) (λ x. r .ascending i x l) j
 
   -- a sum over the entries of a row, as a sum over the columns
-  pub row-sum : (i : ℕ) → i < H .m → (g : ℕ → ℕ) → sum (H .rho) (λ k. g (entry H i k)) ≡ sum (H .n) (λ j. has H i j * g j)
+  pub row-sum : (i : ℕ) → i < H .m → (g : ℕ → ℕ) → sumBelow (H .rho) (λ k. g (entry H i k)) ≡ sumBelow (H .n) (λ j. has H i j * g j)
   unfolding has
   row-sum i l g =
       sum-cong (H .rho) (λ k h. sym (sum-pick (H .n) g (entry H i k) (r .below i k l h)))

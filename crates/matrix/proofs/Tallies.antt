@@ -8,20 +8,20 @@ use native.Mathlib.Decide.{ℕ-discrete}
 use native.Mathlib.Omega.{arith}
 use lib.ListN.{getD, set, replicate, getD-replicate, length-replicate, length-set}
 use lib.Seq.{getD-set-same, getD-set-other}
-use Rattle.counting.specs.Sum.{sum, same}
+use Rattle.counting.specs.Paper.Sum.{sumBelow, same}
 use Rattle.counting.proofs.Sums.{sum-bound, sum-cong, same-le, same-ne, same-refl}
-use Rattle.matrix.specs.Code.{Matrix, entry, has, common}
+use Rattle.matrix.specs.Paper.Code.{Matrix, entry, has, common}
 use Rattle.matrix.specs.Tallies.{Tally, markAt}
 use Rattle.matrix.proofs.Rows.{common-sym}
 
 module _ (f : ℕ → ℕ) where
   pub tally-none : Tally f 0 (replicate 1023 0)
-  unfolding sum
+  unfolding sumBelow
   tally-none = record { long = length-replicate {A = ℕ} 1023 0; each = λ j l. getD-replicate 1023 j 0 0 l }
 
   -- one more is counted
   counted : (k : ℕ) (v : List ℕ) → Tally f k v → f k < 1023 → Tally f (k + 1) (set v (f k) (getD v (f k) 0 + 1))
-  unfolding sum
+  unfolding sumBelow
   counted k v t h =
       record {
         long = length-set v (f k) (getD v (f k) 0 + 1) ∙ t .long;
@@ -48,6 +48,6 @@ module _ (f : ℕ → ℕ) where
 
 -- the marks of a row at the columns of another add up to what they share
 pub tally-common : (H : Matrix) (i i′ : ℕ) (v : List ℕ) → Tally (entry H i) (H .rho) v → ((k : ℕ) → k < H .rho → entry H i′ k < 1023)
-    → sum (H .rho) (markAt H i′ v) ≡ common H i i′
+    → sumBelow (H .rho) (markAt H i′ v) ≡ common H i i′
 unfolding common has markAt
 tally-common H i i′ v t below = sum-cong (H .rho) (λ k h. t .each (entry H i′ k) (below k h)) ∙ common-sym H i′ i

@@ -7,8 +7,8 @@ use mathlib.Core.Path.{_≡_}
 use Prim.Native.Nat.{ℕ, _*_, _≤_, _<_}
 use native.Mathlib.Decide.{decLt}
 use native.Mathlib.Omega.{arith}
-use Rattle.matrix.specs.Code.{Matrix, weight}
-use Rattle.matrix.specs.Reading.{Accepted}
+use Rattle.matrix.specs.Paper.Code.{Matrix, weight}
+use Rattle.matrix.specs.Paper.PlainCheck.{Accepted}
 use Rattle.matrix.proofs.Rows.{weight-outside}
 
 module _ (H : Matrix) (a : Accepted H) where

@@ -6,8 +6,8 @@
 use mathlib.Core.Path.{_≡_}
 use Prim.Native.Nat.{ℕ, _*_, _<_}
 use lib.ListN.{length}
-use Rattle.matrix.specs.Code.{Matrix, entry}
-use Rattle.matrix.specs.Reading.{Sizes, BadEntry, Never}
+use Rattle.matrix.specs.Paper.Code.{Matrix, entry}
+use Rattle.matrix.specs.Paper.PlainCheck.{Sizes, BadEntry, Never}
 
 pub record Sized (H : Matrix) : Type 0 where
   pub sizes : Sizes H

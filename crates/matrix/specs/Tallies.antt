@@ -6,13 +6,13 @@ use mathlib.Core.Path.{_≡_}
 use mathlib.Core.List.{List}
 use Prim.Native.Nat.{ℕ, _<_}
 use lib.ListN.{length, getD}
-use Rattle.counting.specs.Sum.{sum, same}
-use Rattle.matrix.specs.Code.{Matrix, entry}
+use Rattle.counting.specs.Paper.Sum.{sumBelow, same}
+use Rattle.matrix.specs.Paper.Code.{Matrix, entry}
 
 -- the array of the columns, each with how often it came
 pub record Tally (f : ℕ → ℕ) (k : ℕ) (v : List ℕ) : Type 0 where
   pub long : length v ≡ 1023
-  pub each : (j : ℕ) → j < 1023 → getD v j 0 ≡ sum k (λ x. same (f x) j)
+  pub each : (j : ℕ) → j < 1023 → getD v j 0 ≡ sumBelow k (λ x. same (f x) j)
 
 -- the number counted for the k-th column of row i
 unfoldable pub markAt : Matrix → ℕ → List ℕ → ℕ → ℕ

@@ -2,7 +2,7 @@
 // Rests on `counting` and `answers`; its one function reads an entry. Document 01: "The code and the block", "Refused for the input" 1 to 5.
 ghost use Prim.Native.Nat.{_<_};
 ghost use Rattle.matrix.specs.Ordered.{Ordered, Column};
-ghost use Rattle.matrix.specs.Shapes.{matrixOf};
+ghost use Rattle.matrix.specs.Paper.Shapes.{matrixOf};
 
 // The sizes of a matrix: columns, rows, ones in each row, ones in each column.
 pub struct Shape {

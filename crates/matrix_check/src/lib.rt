@@ -9,11 +9,11 @@ use matrix_weights::first_off_weight;
 use matrix_weights::walk;
 ghost use mathlib.Core.Path.{_≡_};
 ghost use mathlib.Core.List.{[]};
-ghost use Rattle.counting.specs.Search.{first};
-ghost use Rattle.answers.specs.Answers.{verdictOf};
-ghost use Rattle.matrix.specs.Check.{within, sizesFit, overlapping, checkOf};
+ghost use Rattle.counting.specs.Paper.Search.{first};
+ghost use Rattle.answers.specs.Paper.Enums.{verdictOf};
+ghost use Rattle.matrix.specs.Paper.Check.{within, sizesFit, overlapping, checkOf};
 ghost use Rattle.matrix.specs.Ordered.{Sized, Ordered};
-ghost use Rattle.matrix.specs.Shapes.{matrixOf};
+ghost use Rattle.matrix.specs.Paper.Shapes.{matrixOf};
 
 // Whether x lies from lo to hi.
 fn in_range(lo: u16, x: u16, hi: u16) -> bool

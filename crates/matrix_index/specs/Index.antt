@@ -4,15 +4,15 @@
 --   within H i k j           == the ones of column j among the first k entries of row i
 --   placed H i j r           == how often row r stands at column j once the rows before row i are placed
 --   placing H i k j r        == what the first k entries of row i add to that
---   Filled H i k counts x    == x after the rows before row i and the first k entries of row i, so many at each column
+--   IndexFilled H i k counts x    == x after the rows before row i and the first k entries of row i, so many at each column
 -- Assumes nothing.
 use Prim.Native.Nat.{ℕ, _+_, _*_, _<_}
 use mathlib.Core.Path.{_≡_}
 use mathlib.Core.List.{List}
 use lib.ListN.{length}
-use Rattle.counting.specs.Sum.{sum, same}
+use Rattle.counting.specs.Paper.Sum.{sumBelow, same}
 use Rattle.counting.specs.Places.{at, among}
-use Rattle.matrix.specs.Code.{Matrix, entry, has}
+use Rattle.matrix.specs.Paper.Code.{Matrix, entry, has}
 
 -- each row stands at each of its columns, and no other does
 pub record Indexed (H : Matrix) (x : List ℕ) : Type 0 where
@@ -23,18 +23,18 @@ pub record Indexed (H : Matrix) (x : List ℕ) : Type 0 where
 -- ---- the index while it is filled
 
 unfoldable pub before : Matrix → ℕ → ℕ → ℕ
-before H i j = sum i (λ r. has H r j)
+before H i j = sumBelow i (λ r. has H r j)
 
 unfoldable pub within : Matrix → ℕ → ℕ → ℕ → ℕ
-within H i k j = sum k (λ q. same (entry H i q) j)
+within H i k j = sumBelow k (λ q. same (entry H i q) j)
 
 unfoldable pub placed : Matrix → ℕ → ℕ → ℕ → ℕ
-placed H i j r = sum i (λ p. same p r * has H p j)
+placed H i j r = sumBelow i (λ p. same p r * has H p j)
 
 unfoldable pub placing : Matrix → ℕ → ℕ → ℕ → ℕ → ℕ
-placing H i k j r = sum k (λ q. same i r * same (entry H i q) j)
+placing H i k j r = sumBelow k (λ q. same i r * same (entry H i q) j)
 
-pub record Filled (H : Matrix) (i k : ℕ) (counts x : List ℕ) : Type 0 where
+pub record IndexFilled (H : Matrix) (i k : ℕ) (counts x : List ℕ) : Type 0 where
   pub long-counts : length counts ≡ 1023
   pub long : length x ≡ 32736
   pub count : (j : ℕ) → at counts j ≡ before H i j + within H i k j

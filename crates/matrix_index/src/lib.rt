@@ -4,14 +4,14 @@ use matrix_check::Shape;
 ghost use Prim.Native.Nat.{_+_, _<_};
 ghost use mathlib.Core.Path.{_≡_};
 ghost use lib.ListN.{length};
-ghost use Rattle.matrix.specs.Reading.{Accepted};
-ghost use Rattle.matrix.specs.Shapes.{matrixOf};
-ghost use Rattle.matrix_index.specs.Index.{Indexed, Filled};
+ghost use Rattle.matrix.specs.Paper.PlainCheck.{Accepted};
+ghost use Rattle.matrix.specs.Paper.Shapes.{matrixOf};
+ghost use Rattle.matrix_index.specs.Index.{Indexed, IndexFilled};
 
 // Writes row i at each of its columns, behind the rows that stand there already.
 fn place_row(shape: Shape, list: &[u16], i: usize, counts: &mut [u16], index: &mut [u16])
-    requires { ⌜ Accepted (matrixOf shape (now list)) × (i < shape .m) × Filled (matrixOf shape (now list)) i 0 (now counts) (now index) ⌝ }
-    ensures { λ _. ⌜ Filled (matrixOf shape (now (list .entry))) (i + 1) 0 (now (counts .exit)) (now (index .exit)) ⌝ }
+    requires { ⌜ Accepted (matrixOf shape (now list)) × (i < shape .m) × IndexFilled (matrixOf shape (now list)) i 0 (now counts) (now index) ⌝ }
+    ensures { λ _. ⌜ IndexFilled (matrixOf shape (now (list .entry))) (i + 1) 0 (now (counts .exit)) (now (index .exit)) ⌝ }
 {
     let rho = shape.rho as usize;
     let mut k = 0;

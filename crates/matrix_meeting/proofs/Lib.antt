@@ -1,2 +1,2 @@
 pub mod Words
-pub mod Meeting
+pub mod Marks

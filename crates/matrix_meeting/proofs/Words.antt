@@ -11,7 +11,7 @@ use lib.Pow.{pow-pos, shl-exact}
 use lib.Seq.{getD-set-same, getD-set-other}
 use Rattle.counting.specs.Digits.{digit}
 use Rattle.counting.proofs.Digits.{digit-and, digit-or, or-one}
-use Rattle.matrix_meeting.specs.Meeting.{Held, Grown}
+use Rattle.matrix_meeting.specs.Marks.{MarksHeld, Grown}
 
 -- ---- binary digits
 
@@ -36,7 +36,7 @@ or-none a b e =
 
 -- by the number r that has it, in its word
 pub grown : (x r : ℕ) (w : List ℕ) → x / 64 < length w → digit r (x % 64) ≡ 1 → Grown x w (set w (x / 64) (bitOr (getD w (x / 64) 0) r))
-unfolding Held
+unfolding MarksHeld
 grown x r w fits e =
     record {
       long = length-set w v new;

@@ -1,2 +1,2 @@
 -- What the contracts of `matrix_meeting` cite.
-pub mod Meeting
+pub mod Marks

@@ -7,9 +7,9 @@ ghost use mathlib.Core.Bool.{false};
 ghost use Prim.Native.Nat.{_+_, _*_, _<_, _≤_};
 ghost use lib.ListN.{length, getD};
 ghost use Rattle.matrix.specs.Ordered.{Ordered};
-ghost use Rattle.matrix.specs.Reading.{Overlap, Never};
-ghost use Rattle.matrix.specs.Shapes.{matrixOf};
-ghost use Rattle.matrix_meeting.specs.Meeting.{Meets, MetOnce, bitFor, Grown, Noted, PartClear};
+ghost use Rattle.matrix.specs.Paper.PlainCheck.{Overlap, Never};
+ghost use Rattle.matrix.specs.Paper.Shapes.{matrixOf};
+ghost use Rattle.matrix_meeting.specs.Marks.{Meets, MetOnce, bitFor, Grown, Noted, PartClear};
 
 // The bits that were met in one word after another, and those of them that were met twice.
 struct Met {

@@ -4,11 +4,11 @@ use matrix::Shape;
 use matrix::column;
 ghost use mathlib.Core.Path.{_≡_};
 ghost use Prim.Native.Nat.{_<_};
-ghost use Rattle.counting.specs.Search.{first};
-ghost use Rattle.matrix.specs.Code.{entry, common};
-ghost use Rattle.matrix.specs.Check.{overlapping};
+ghost use Rattle.counting.specs.Paper.Search.{first};
+ghost use Rattle.matrix.specs.Paper.Code.{entry, common};
+ghost use Rattle.matrix.specs.Paper.Check.{overlapping};
 ghost use Rattle.matrix.specs.Ordered.{Ordered};
-ghost use Rattle.matrix.specs.Shapes.{matrixOf};
+ghost use Rattle.matrix.specs.Paper.Shapes.{matrixOf};
 ghost use Rattle.matrix.specs.Tallies.{Tally};
 
 // The marks of row i: how often it has each column.

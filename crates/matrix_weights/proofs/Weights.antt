@@ -8,15 +8,15 @@ use native.Mathlib.Decide.{decLt}
 use native.Mathlib.Omega.{arith}
 use lib.Dec.{eqb}
 use lib.ListN.{length, getD}
-use Rattle.counting.specs.Sum.{sum, same}
-use Rattle.counting.specs.Search.{first}
+use Rattle.counting.specs.Paper.Sum.{sumBelow, same}
+use Rattle.counting.specs.Paper.Search.{first}
 use Rattle.counting.proofs.Searches.{first-cong}
-use Rattle.matrix.specs.Code.{Matrix, weight}
-use Rattle.matrix.specs.Check.{badEntry, badWeight}
+use Rattle.matrix.specs.Paper.Code.{Matrix, weight}
+use Rattle.matrix.specs.Paper.Check.{badEntry, badWeight}
 use Rattle.matrix.proofs.Rows.{weight-flat}
-use Rattle.matrix.proofs.Reading.{entry-clear}
+use Rattle.matrix.proofs.PlainCheck.{entry-clear}
 use Rattle.matrix.specs.Tallies.{Tally}
-use Rattle.matrix_weights.specs.Walking.{listAt, offWeight}
+use Rattle.matrix_weights.specs.Weights.{listAt, offWeight}
 
 module _ (H : Matrix) where
   -- an entry that is not bad is a column
@@ -26,7 +26,7 @@ module _ (H : Matrix) where
 
   -- the tally of the whole list has the weights
   pub tally-weight : (v : List ℕ) → length (H .list) ≡ H .m * H .rho → Tally (listAt H) (length (H .list)) v → (j : ℕ) → j < 1023 → getD v j 0 ≡ weight H j
-  tally-weight v whole t j l = t .each j l ∙ ap (λ (k : ℕ). sum k (λ p. same (listAt H p) j)) whole ∙ sym (weight-flat H j)
+  tally-weight v whole t j l = t .each j l ∙ ap (λ (k : ℕ). sumBelow k (λ p. same (listAt H p) j)) whole ∙ sym (weight-flat H j)
 
   pub tally-off : (v : List ℕ) → H .n ≤ 1023 → length (H .list) ≡ H .m * H .rho → Tally (listAt H) (length (H .list)) v
       → first (offWeight (H .gamma) v) (H .n) ≡ first (badWeight H) (H .n)

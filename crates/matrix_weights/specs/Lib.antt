@@ -1,2 +1,2 @@
 -- What the contracts of `matrix_weights` cite.
-pub mod Walking
+pub mod Weights

@@ -4,12 +4,12 @@ use matrix::Shape;
 ghost use mathlib.Core.Path.{_≡_};
 ghost use Prim.Native.Nat.{_+_, _%_, _<_, _≤_};
 ghost use lib.ListN.{length, getD, set};
-ghost use Rattle.counting.specs.Search.{first};
-ghost use Rattle.matrix.specs.Check.{badEntry};
+ghost use Rattle.counting.specs.Paper.Search.{first};
+ghost use Rattle.matrix.specs.Paper.Check.{badEntry};
 ghost use Rattle.matrix.specs.Ordered.{Sized};
-ghost use Rattle.matrix.specs.Shapes.{matrixOf};
+ghost use Rattle.matrix.specs.Paper.Shapes.{matrixOf};
 ghost use Rattle.matrix.specs.Tallies.{Tally};
-ghost use Rattle.matrix_weights.specs.Walking.{listAt, Walked, offWeight};
+ghost use Rattle.matrix_weights.specs.Weights.{listAt, Walked, offWeight};
 
 // The place in its row of the entry after one at place k.
 fn next_place(k: usize, rho: usize) -> usize

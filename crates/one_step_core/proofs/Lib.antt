@@ -1,2 +1,2 @@
-pub mod Voting
-pub mod Finishing
+pub mod Results
+pub mod Votes

@@ -1,28 +1,27 @@
 -- One vote on an unpacked word, and the whole call.
 --   Stepped H z bits rounds f   == the array holds the word after the vote, with its rounds and its failing checks
---   Lent H w old                == what the refusals leave: an accepted matrix, a word, a buffer with room for it
+--   VoteLent H w old                == what the refusals leave: an accepted matrix, a word, a buffer with room for it
 --   Voted H w old new s         == what the core says and writes
---   Answered H w old new s      == what one-step voting says and writes, refused calls too
 -- Assumes nothing.
 use Prim.Native.Nat.{ℕ, _≤_, _<_}
 use mathlib.Core.Path.{_≡_}
 use mathlib.Core.Bool.{false}
 use mathlib.Core.List.{List}
 use lib.ListN.{length}
-use Rattle.counting.specs.Lists.{over}
+use Rattle.counting.specs.Paper.Lists.{over}
 use Rattle.counting.specs.Places.{at}
-use Rattle.answers.specs.Paper.{Said, written}
-use Rattle.packed_word.specs.Packed.{bitAt, bytesFor, spareSet}
-use Rattle.matrix.specs.Code.{Matrix, failing}
-use Rattle.matrix.specs.Reading.{Accepted}
-use Rattle.majority_logic.specs.OneStep.{stepWord, stepRounds, oneStepReport, oneStepVerdict, oneStepOf, oneStepWord}
+use Rattle.answers.specs.Paper.Answers.{Said}
+use Rattle.packed_word.specs.Paper.Packed.{bitAt, bytesFor, spareSet}
+use Rattle.matrix.specs.Paper.Code.{Matrix, failing}
+use Rattle.matrix.specs.Paper.PlainCheck.{Accepted}
+use Rattle.majority_logic.specs.Paper.OneStep.{stepWord, stepRounds, oneStepReport, oneStepWord}
 
 pub record Stepped (H : Matrix) (z : ℕ → ℕ) (bits : List ℕ) (rounds f : ℕ) : Type 0 where
   pub each : (j : ℕ) → j < H .n → at bits j ≡ stepWord H z j
   pub rounds-are : rounds ≡ stepRounds H z
   pub failing-are : f ≡ failing H (stepWord H z)
 
-pub record Lent (H : Matrix) (w old : List ℕ) : Type 0 where
+pub record VoteLent (H : Matrix) (w old : List ℕ) : Type 0 where
   pub matrix : Accepted H
   pub long : length w ≡ bytesFor (H .n)
   pub spare : spareSet (H .n) w ≡ false
@@ -31,7 +30,3 @@ pub record Lent (H : Matrix) (w old : List ℕ) : Type 0 where
 pub record Voted (H : Matrix) (w old new : List ℕ) (s : Said) : Type 0 where
   pub says : s ≡ oneStepReport H (bitAt w)
   pub word : new ≡ over (oneStepWord H w) old
-
-pub record Answered (H : Matrix) (w old new : List ℕ) (s : Said) : Type 0 where
-  pub says : s ≡ oneStepOf H w (length old)
-  pub word : new ≡ written (oneStepVerdict H w (length old)) (oneStepWord H w) old

@@ -3,12 +3,12 @@
 use answers::Report;
 use majority_votes::Stop;
 use matrix_check::Shape;
-ghost use Rattle.answers.specs.Answers.{reportOf};
+ghost use Rattle.answers.specs.Paper.Enums.{reportOf};
 ghost use Rattle.counting.specs.Places.{at};
-ghost use Rattle.matrix.specs.Code.{Word};
-ghost use Rattle.matrix.specs.Reading.{Accepted};
-ghost use Rattle.matrix.specs.Shapes.{matrixOf};
-ghost use Rattle.one_step_core.specs.Stepped.{Stepped, Lent, Voted};
+ghost use Rattle.matrix.specs.Paper.Code.{Word};
+ghost use Rattle.matrix.specs.Paper.PlainCheck.{Accepted};
+ghost use Rattle.matrix.specs.Paper.Shapes.{matrixOf};
+ghost use Rattle.one_step_core.specs.Stepped.{Stepped, VoteLent, Voted};
 
 // One vote on an unpacked word: nothing moves where no check fails.
 fn vote(shape: Shape, list: &[u16], bits: &mut [u8; 1023]) -> Stop
@@ -33,7 +33,7 @@ fn vote(shape: Shape, list: &[u16], bits: &mut [u8; 1023]) -> Stop
 
 // The core, for a matrix that the check has accepted. Only this repository's crates call it, after asking the refusals.
 pub fn one_step_accepted(shape: Shape, list: &[u16], received: &[u8], word: &mut [u8]) -> Report
-    requires { ⌜ Lent (matrixOf shape (now list)) (now received) (now word) ⌝ }
+    requires { ⌜ VoteLent (matrixOf shape (now list)) (now received) (now word) ⌝ }
     ensures { λ r. ⌜ Voted (matrixOf shape (now (list .entry))) (now (received .entry)) (now (word .entry)) (now (word .exit)) (reportOf r) ⌝ }
 {
     let n = shape.n as usize;

@@ -9,16 +9,16 @@ use lib.Pow.{shr-shr}
 use lib.Bits.{bitXor, xor-lt}
 use lib.Count.{ones, ones-step}
 use lib.ListN.{getD}
-use Rattle.counting.specs.Sum.{sum, differ}
+use Rattle.counting.specs.Paper.Sum.{sumBelow, unequal}
 use Rattle.counting.proofs.Sums.{sum-cong, sum-append, sum-bound, differ-le}
-use Rattle.packed_word.specs.Packed.{bitAt, distance}
+use Rattle.packed_word.specs.Paper.Packed.{bitAt, distance}
 use Rattle.packed_word.specs.Steps.{apart}
 use Rattle.counting.specs.Digits.{digit}
 use Rattle.counting.proofs.Digits.{digit-xor}
-use Rattle.packed_word.proofs.Packing.{bit-of}
+use Rattle.packed_word.proofs.Packed.{bit-of}
 
-xor-differ : (x y : ℕ) → x < 2 → y < 2 → bitXor x y ≡ differ x y
-unfolding differ
+xor-differ : (x y : ℕ) → x < 2 → y < 2 → bitXor x y ≡ unequal x y
+unfolding unequal
 xor-differ zero zero h l = refl
 xor-differ zero (suc zero) h l = refl
 xor-differ zero (suc (suc y)) h l = absurd (omega arith)
@@ -28,20 +28,20 @@ xor-differ (suc zero) (suc (suc y)) h l = absurd (omega arith)
 xor-differ (suc (suc x)) y h l = absurd (omega arith)
 
 -- digit k of the exclusive or says whether the digits differ
-xor-apart : (x y k : ℕ) → digit (bitXor x y) k ≡ differ (digit x k) (digit y k)
+xor-apart : (x y k : ℕ) → digit (bitXor x y) k ≡ unequal (digit x k) (digit y k)
 xor-apart x y k = digit-xor x y k ∙ xor-differ (digit x k) (digit y k) (omega arith) (omega arith)
 
 -- ---- the set digits of a byte
 
-chain : (o d : ℕ → ℕ) → ((k : ℕ) → o k ≡ d k + o (suc k)) → o 8 ≡ 0 → o 0 ≡ sum 8 (λ i. d (7 - i))
-unfolding sum
+chain : (o d : ℕ → ℕ) → ((k : ℕ) → o k ≡ d k + o (suc k)) → o 8 ≡ 0 → o 0 ≡ sumBelow 8 (λ i. d (7 - i))
+unfolding sumBelow
 chain o d h e = omega (arith, h 0, h 1, h 2, h 3, h 4, h 5, h 6, h 7)
 
 ones-shifted : (v k : ℕ) → ones (v / 2 ^ k) ≡ digit v k + ones (v / 2 ^ suc k)
 ones-shifted v k =
     ones-step (v / 2 ^ k) ∙ ap (λ (x : ℕ). digit v k + ones x) (shr-shr v k 1 ∙ ap (λ (x : ℕ). v / 2 ^ x) (add-one k))
 
-ones-byte : (v : ℕ) → v < 256 → ones v ≡ sum 8 (λ i. digit v (7 - i))
+ones-byte : (v : ℕ) → v < 256 → ones v ≡ sumBelow 8 (λ i. digit v (7 - i))
 unfolding ones
 ones-byte v h =
     let e : v / 1 ≡ v = omega arith in
@@ -54,12 +54,12 @@ ones-apart x y h l = ones-byte (bitXor x y) (xor-lt 8 x y h l) ∙ sum-cong 8 (�
 
 pub apart-few : (r x y : ℕ) → r ≡ apart x y → r ≤ 8
 unfolding apart
-apart-few r x y e = omega (arith, sum-bound 8 1 {f = λ i. differ (digit x (7 - i)) (digit y (7 - i))} (λ i l. differ-le (digit x (7 - i)) (digit y (7 - i))))
+apart-few r x y e = omega (arith, sum-bound 8 1 {f = λ i. unequal (digit x (7 - i)) (digit y (7 - i))} (λ i l. differ-le (digit x (7 - i)) (digit y (7 - i))))
 
 -- ---- words, byte by byte
 
 pub distance-none : (z c : ℕ → ℕ) → 0 ≡ distance 0 z c
-unfolding distance sum
+unfolding distance sumBelow
 distance-none z c = refl
 
 -- one byte more
@@ -67,6 +67,6 @@ pub distance-more : (a b : List ℕ) (q : ℕ) → distance (8 * (q + 1)) (bitAt
 unfolding distance apart
 distance-more a b q =
     let e : 8 * (q + 1) ≡ 8 * q + 8 = omega arith in
-    ap (λ (k : ℕ). sum k (λ j. differ (bitAt a j) (bitAt b j))) e
-    ∙ sum-append (8 * q) 8 (λ j. differ (bitAt a j) (bitAt b j))
-    ∙ ap (λ (x : ℕ). sum (8 * q) (λ j. differ (bitAt a j) (bitAt b j)) + x) (sum-cong 8 (λ i l. ap₂ differ (bit-of a q i l) (bit-of b q i l)))
+    ap (λ (k : ℕ). sumBelow k (λ j. unequal (bitAt a j) (bitAt b j))) e
+    ∙ sum-append (8 * q) 8 (λ j. unequal (bitAt a j) (bitAt b j))
+    ∙ ap (λ (x : ℕ). sumBelow (8 * q) (λ j. unequal (bitAt a j) (bitAt b j)) + x) (sum-cong 8 (λ i l. ap₂ unequal (bit-of a q i l) (bit-of b q i l)))

@@ -6,11 +6,11 @@ use native.Mathlib.Omega.{arith}
 use lib.Pow.{shr-shr}
 use native.Mathlib.Numerals.{add-one}
 use Rattle.counting.specs.Digits.{digit}
-use Rattle.counting.specs.Sum.{sum}
+use Rattle.counting.specs.Paper.Sum.{sumBelow}
 
 -- the byte with bits f 0 .. f 7, the highest first
 abbrev pub byte : (ℕ → ℕ) → ℕ
-byte f = sum 8 (λ i. f i * 2 ^ (7 - i))
+byte f = sumBelow 8 (λ i. f i * 2 ^ (7 - i))
 
 -- what holds of each of the eight places
 pub each-place : (P : ℕ → Type 0) → P 0 → P 1 → P 2 → P 3 → P 4 → P 5 → P 6 → P 7 → (i : ℕ) → i < 8 → P i
@@ -26,7 +26,7 @@ each-place P a b c d e f g h (suc (suc (suc (suc (suc (suc (suc (suc i)))))))) l
 
 module _ (f : ℕ → ℕ) (bits : (i : ℕ) → i < 8 → f i < 2) where
   pub byte-small : byte f < 256
-  unfolding sum
+  unfolding sumBelow
   byte-small =
       omega (
         arith,
@@ -42,7 +42,7 @@ module _ (f : ℕ → ℕ) (bits : (i : ℕ) → i < 8 → f i < 2) where
 
   -- the bits of the byte made of bits
   pub digit-byte : (i : ℕ) → i < 8 → digit (byte f) (7 - i) ≡ f i
-  unfolding sum
+  unfolding sumBelow
   digit-byte =
       let b0 : f 0 < 2 = bits 0 (omega arith) in
       let b1 : f 1 < 2 = bits 1 (omega arith) in
@@ -57,7 +57,7 @@ module _ (f : ℕ → ℕ) (bits : (i : ℕ) → i < 8 → f i < 2) where
 
 -- a number by its halves: each is twice the next, and one digit
 halves : (a d : ℕ → ℕ) → ((k : ℕ) → a k ≡ 2 * a (suc k) + d k) → a 8 ≡ 0 → byte (λ i. d (7 - i)) ≡ a 0
-unfolding sum
+unfolding sumBelow
 halves a d h e = omega (arith, h 0, h 1, h 2, h 3, h 4, h 5, h 6, h 7)
 
 half : (v k : ℕ) → v / 2 ^ k ≡ 2 * (v / 2 ^ suc k) + digit v k

@@ -6,15 +6,15 @@ use Prim.Native.Nat.{ℕ, _+_, _≤_, _<_}
 use native.Mathlib.Nat.{mul-one}
 use native.Mathlib.Omega.{arith}
 use lib.ListN.{length}
-use Rattle.counting.specs.Sum.{sum, differ}
+use Rattle.counting.specs.Paper.Sum.{sumBelow, unequal}
 use Rattle.counting.proofs.Sums.{sum-cong, sum-le, sum-zero, sum-bound, sum-add, sum-append, sum-term, sum-pos}
 use Rattle.counting.proofs.Sums.{differ-eq, differ-le, differ-zero, differ-sym, differ-triangle}
-use Rattle.packed_word.specs.Packed.{bitAt, bytesFor, spareSet, Bytes, distance}
-use Rattle.packed_word.proofs.Packing.{pack-cong, pack-bitAt}
+use Rattle.packed_word.specs.Paper.Packed.{bitAt, bytesFor, spareSet, Bytes, distance}
+use Rattle.packed_word.proofs.Packed.{pack-cong, pack-bitAt}
 
 pub distance-cong : (n : ℕ) {z z′ c c′ : ℕ → ℕ} → ((j : ℕ) → j < n → z j ≡ z′ j) → ((j : ℕ) → j < n → c j ≡ c′ j) → distance n z c ≡ distance n z′ c′
 unfolding distance
-distance-cong n p q = sum-cong n (λ j l. ap₂ differ (p j l) (q j l))
+distance-cong n p q = sum-cong n (λ j l. ap₂ unequal (p j l) (q j l))
 
 pub distance-sym : (n : ℕ) (z c : ℕ → ℕ) → distance n z c ≡ distance n c z
 unfolding distance
@@ -29,33 +29,33 @@ unfolding distance
 distance-triangle n c c′ z z′ =
     omega (
       arith,
-      sum-le n {f = λ j. differ (c j) (c′ j)} {g = λ j. differ (z j) (c j) + differ (z j) (z′ j) + differ (z′ j) (c′ j)}
+      sum-le n {f = λ j. unequal (c j) (c′ j)} {g = λ j. unequal (z j) (c j) + unequal (z j) (z′ j) + unequal (z′ j) (c′ j)}
           (λ j l. differ-triangle (c j) (c′ j) (z j) (z′ j)),
-      sum-add n (λ j. differ (z j) (c j) + differ (z j) (z′ j)) (λ j. differ (z′ j) (c′ j)),
-      sum-add n (λ j. differ (z j) (c j)) (λ j. differ (z j) (z′ j)),
+      sum-add n (λ j. unequal (z j) (c j) + unequal (z j) (z′ j)) (λ j. unequal (z′ j) (c′ j)),
+      sum-add n (λ j. unequal (z j) (c j)) (λ j. unequal (z j) (z′ j)),
     )
 
 pub distance-agree : (n : ℕ) (z c : ℕ → ℕ) → distance n z c ≡ 0 → (j : ℕ) → j < n → z j ≡ c j
 unfolding distance
 distance-agree n z c h j l =
-    differ-zero (z j) (c j) (omega (arith, sum-term n (λ j. differ (z j) (c j)) j l))
+    differ-zero (z j) (c j) (omega (arith, sum-term n (λ j. unequal (z j) (c j)) j l))
 
 pub distance-apart : (n : ℕ) (z c : ℕ → ℕ) → 0 < distance n z c → (j : ℕ) × (j < n) × (z j ≡ c j → ⊥)
 unfolding distance
 distance-apart n z c h =
-    let p = sum-pos n (λ j. differ (z j) (c j)) h in
+    let p = sum-pos n (λ j. unequal (z j) (c j)) h in
     (p .0, p .1, λ e. omega (arith, p .2, differ-eq (z (p .0)) (c (p .0)) e))
 
 pub distance-le : (n : ℕ) (z c : ℕ → ℕ) → distance n z c ≤ n
 unfolding distance
-distance-le n z c = omega (arith, sum-bound n 1 {f = λ j. differ (z j) (c j)} (λ j l. differ-le (z j) (c j)), mul-one n)
+distance-le n z c = omega (arith, sum-bound n 1 {f = λ j. unequal (z j) (c j)} (λ j l. differ-le (z j) (c j)), mul-one n)
 
 pub distance-spare : (n k : ℕ) (z c : ℕ → ℕ) → ((j : ℕ) → n ≤ j → j < n + k → z j ≡ c j) → distance (n + k) z c ≡ distance n z c
 unfolding distance
 distance-spare n k z c h =
-    let rest : sum k (λ i. differ (z (n + i)) (c (n + i))) ≡ 0 =
+    let rest : sumBelow k (λ i. unequal (z (n + i)) (c (n + i))) ≡ 0 =
     sum-zero k (λ i l. differ-eq (z (n + i)) (c (n + i)) (h (n + i) (omega arith) (omega arith))) in
-    omega (arith, sum-append n k (λ j. differ (z j) (c j)))
+    omega (arith, sum-append n k (λ j. unequal (z j) (c j)))
 
 -- words without a difference and with clear spare places are the same bytes
 pub words-equal : (n : ℕ) (w w′ : List ℕ) → Bytes w → Bytes w′ → length w ≡ bytesFor n → length w′ ≡ bytesFor n

@@ -1,6 +1,6 @@
 pub mod Digits
 pub mod Masks
-pub mod Packing
 pub mod Distances
-pub mod Storing
 pub mod Counts
+pub mod Packed
+pub mod Stores

@@ -1,3 +1,3 @@
 -- What the contracts of `packed_word` cite.
-pub mod Packed
+pub mod Paper
 pub mod Steps

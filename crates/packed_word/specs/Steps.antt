@@ -7,9 +7,9 @@ use Prim.Native.Nat.{ℕ, _-_, _/_, _%_, _^_, _<_, _≤_}
 use mathlib.Core.Path.{_≡_}
 use mathlib.Core.List.{List}
 use lib.ListN.{length}
-use Rattle.counting.specs.Sum.{sum, differ}
+use Rattle.counting.specs.Paper.Sum.{sumBelow, unequal}
 use Rattle.counting.specs.Places.{at}
-use Rattle.packed_word.specs.Packed.{bitAt}
+use Rattle.packed_word.specs.Paper.Packed.{bitAt}
 
 -- bit j is set, and no other changes
 pub record SetBit (w w′ : List ℕ) (j : ℕ) : Type 0 where
@@ -31,4 +31,4 @@ pub record Unpacked (n : ℕ) (w old new : List ℕ) : Type 0 where
 
 -- the places, of eight, at which two bytes differ, the highest first
 unfoldable pub apart : ℕ → ℕ → ℕ
-apart x y = sum 8 (λ i. differ (x / 2 ^ (7 - i) % 2) (y / 2 ^ (7 - i) % 2))
+apart x y = sumBelow 8 (λ i. unequal (x / 2 ^ (7 - i) % 2) (y / 2 ^ (7 - i) % 2))

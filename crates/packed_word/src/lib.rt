@@ -5,10 +5,10 @@ ghost use mathlib.Core.Path.{_≡_};
 ghost use Prim.Native.Nat.{ℕ, _+_, _*_, _/_, _<_, _≤_};
 ghost use lib.Dec.{ltb};
 ghost use lib.ListN.{length};
-ghost use Rattle.counting.specs.Sum.{flag};
-ghost use Rattle.counting.specs.Lists.{over};
+ghost use Rattle.counting.specs.Paper.Sum.{flag};
+ghost use Rattle.counting.specs.Paper.Lists.{over};
 ghost use Rattle.counting.specs.Places.{at};
-ghost use Rattle.packed_word.specs.Packed.{bitAt, bytesFor, packedByte, pack, distance, spareSet};
+ghost use Rattle.packed_word.specs.Paper.Packed.{bitAt, bytesFor, packedByte, pack, distance, spareSet};
 ghost use Rattle.packed_word.specs.Steps.{Unpacked, apart, SetBit, FlipBit};
 
 // Bit j of a packed word. Only this repository's crates call it, with a bit that the word has.

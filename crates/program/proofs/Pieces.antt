@@ -12,22 +12,22 @@ use lib.ListN.{length, take}
 use Rattle.program_ends.specs.Stages.{Awaited, wanted, firstReply}
 use Rattle.program_ends.specs.Replies.{Ready, Replied}
 use Rattle.program_ends.proofs.Stages.{wanted-fits, ready-next, rank, rank-falls}
-use Rattle.program.specs.Pieces.{Lent, Piece}
+use Rattle.program.specs.Pieces.{PieceLent, Piece}
 
 -- the run begins
 pub lent-first : {a : Awaited} {w e : ℕ} {l input out : List ℕ} → Replied firstReply a w e out → length l ≡ 32736 → length input ≡ 65536 → length out ≡ 65536
-    → Lent a w l input out
+    → PieceLent a w l input out
 lent-first r x y z =
     record { ready = subst Ready (sym (r .awaited)) tt; want = r .want ∙ ap wanted (sym (r .awaited)); list = x; long = y; room = z }
 
-module _ {a : Awaited} {w : ℕ} {l input out : List ℕ} (b : Lent a w l input out) where
+module _ {a : Awaited} {w : ℕ} {l input out : List ℕ} (b : PieceLent a w l input out) where
   -- what is wanted fits the input buffer
   pub fits : w ≤ length input
   fits = omega (arith, b .want, b .long, wanted-fits a (b .ready))
 
   module _ {a′ : Awaited} {w′ e : ℕ} {input′ out′ : List ℕ} (p : Piece a input′ a′ w′ e out′) where
     -- after a piece the run can go on
-    pub lent-next : {l′ : List ℕ} → length l′ ≡ length l → length input′ ≡ length input → length out′ ≡ length out → Lent a′ w′ l′ input′ out′
+    pub lent-next : {l′ : List ℕ} → length l′ ≡ length l → length input′ ≡ length input → length out′ ≡ length out → PieceLent a′ w′ l′ input′ out′
     lent-next x y z =
         record {
           ready = subst Ready (sym (p .reply .awaited)) (ready-next a (take (p .got) input′) (b .ready));

@@ -10,13 +10,13 @@ use borrow.Author.Tests.{lt-ltb, le-ltb, le-leb, lt-leb}
 use lib.Dec.{leb}
 use lib.ListN.{length, take, drop, length-drop}
 use lib.Seq.{take-take, drop-drop, take-all, length-take-le}
-use Rattle.matrix.specs.Code.{Matrix}
-use Rattle.quantiser_levels.specs.Samples.{Choice}
-use Rattle.program_input.specs.Opening.{Decodable}
-use Rattle.program_lines.specs.Blocks.{blocksIn, blockAt, blockLines, chunkText}
+use Rattle.matrix.specs.Paper.Code.{Matrix}
+use Rattle.quantiser_levels.specs.Paper.Samples.{Setting}
+use Rattle.program_input.specs.Paper.Opening.{Decodable}
+use Rattle.program_lines.specs.Paper.Blocks.{blocksIn, blockAt, blockLines, chunkText}
 use Rattle.program_turns.specs.Turns.{atOnce}
 use Rattle.program_turns.proofs.Turns.{many}
-use Rattle.program.specs.Program.{blocksText}
+use Rattle.program.specs.Paper.Program.{blocksText}
 use Rattle.program.specs.Turns.{turnsText, Turning}
 
 -- ---- parts of a list
@@ -55,7 +55,7 @@ module _ (d : ℕ) (some : 0 < d) where
     remainder-less : (len - a * d) % d ≡ len % d
     remainder-less = remainder (len / d - a) (len % d) (len - a * d) (mod-lt len some) less
 
-module _ (H : Matrix) (S : Choice) (some : 0 < 4 * H .n) where
+module _ (H : Matrix) (S : Setting) (some : 0 < 4 * H .n) where
   -- ---- lines in two parts
 
   later : (a b : ℕ) (bs : List ℕ) → blockAt H bs (a + b) ≡ blockAt H (drop (a * (4 * H .n)) bs) b
@@ -91,7 +91,15 @@ module _ (H : Matrix) (S : Choice) (some : 0 < 4 * H .n) where
     unfolding chunkText
     chunk-rest =
         let q : a + (length bs / (4 * H .n) - a) ≡ length bs / (4 * H .n) = omega (arith, fewer (4 * H .n) some (length bs) a h) in
-        rw (length-drop (a * (4 * H .n)) bs, quotient-less (4 * H .n) some (length bs) a h, remainder-less (4 * H .n) some (length bs) a h, ← append-assoc, lines-join i a (length bs / (4 * H .n) - a) bs, q)
+        rw (
+          length-drop (a * (4 * H .n)) bs,
+          quotient-less (4 * H .n) some (length bs) a h,
+          remainder-less (4 * H .n) some
+              (length bs) a h,
+          ← append-assoc,
+          lines-join i a (length bs / (4 * H .n) - a) bs,
+          q,
+        )
 
   -- ---- the blocks from number i on, none past the 65,535th
 
@@ -119,7 +127,8 @@ module _ (H : Matrix) (S : Choice) (some : 0 < 4 * H .n) where
       ap (chunkText H S i) (take-all (k * (4 * H .n)) bs (omega arith)) ∙ sym (limited-some i bs (omega arith))
 
   -- a turn that finds all
-  limited-step : (i k : ℕ) (bs : List ℕ) → i + k ≤ 65535 → k * (4 * H .n) ≤ length bs → chunkText H S i (take (k * (4 * H .n)) bs) ++ limited (i + k) (drop (k * (4 * H .n)) bs) ≡ limited i bs
+  limited-step : (i k : ℕ) (bs : List ℕ) → i + k ≤ 65535 → k * (4 * H .n) ≤ length bs
+      → chunkText H S i (take (k * (4 * H .n)) bs) ++ limited (i + k) (drop (k * (4 * H .n)) bs) ≡ limited i bs
   limited-step i k bs m h =
       let d = 4 * H .n in
       let rest = drop (k * d) bs in
@@ -127,7 +136,8 @@ module _ (H : Matrix) (S : Choice) (some : 0 < 4 * H .n) where
       let e : blocksIn H rest ≡ blocksIn H bs - k = rw (length-drop (k * d) bs) (quotient-less d some (length bs) k h) in
       ap (λ (x : List ℕ). x ++ limited (i + k) rest) (chunk-front i k bs h)
       ∙ elim (decLt (blocksIn H bs) (65535 - i)) [
-        | yes l ↦ ap (λ (x : List ℕ). blockLines H S i k bs ++ x) (limited-some (i + k) rest (omega (arith, e))) ∙ chunk-rest i k bs h ∙ sym (limited-some i bs l)
+        | yes l ↦ ap (λ (x : List ℕ). blockLines H S i k bs ++ x) (limited-some (i + k) rest (omega (arith, e))) ∙ chunk-rest i k bs h
+            ∙ sym (limited-some i bs l)
         | no n ↦
             let j : k + (65535 - (i + k)) ≡ 65535 - i = omega arith in
             ap (λ (x : List ℕ). blockLines H S i k bs ++ x) (limited-all (i + k) rest (omega (arith, e)))
@@ -149,7 +159,12 @@ module _ (H : Matrix) (S : Choice) (some : 0 < 4 * H .n) where
               elim (decLt (length bs) (at i * (4 * H .n))) [
                 | yes c ↦ rw (lt-leb 65535 i l, lt-ltb (length bs) (at i * (4 * H .n)) c) (append-nil _ ∙ limited-cut i (at i) bs (r .most i l) c)
                 | no g ↦
-                    rw (lt-leb 65535 i l, le-ltb (length bs) (at i * (4 * H .n)) (omega arith), turns-from t (i + at i) (drop (at i * (4 * H .n)) bs) (omega (arith, r .least i l)))
+                    rw (
+                      lt-leb 65535 i l,
+                      le-ltb (length bs) (at i * (4 * H .n)) (omega arith),
+                      turns-from t (i + at i) (drop (at i * (4 * H .n)) bs)
+                          (omega (arith, r .least i l)),
+                    )
                     (limited-step i (at i) bs (r .most i l) (omega arith))
               ]
         ]
@@ -168,7 +183,7 @@ turning n least most =
     }
 
 -- so its turns print the blocks' text
-pub program-prints : (H : Matrix) (S : Choice) (bs : List ℕ) → Decodable H S → turnsText H S (atOnce (H .n)) 65535 0 bs ≡ blocksText H S bs
+pub program-prints : (H : Matrix) (S : Setting) (bs : List ℕ) → Decodable H S → turnsText H S (atOnce (H .n)) 65535 0 bs ≡ blocksText H S bs
 program-prints H S bs d =
     let z = d .matrix .sizes in
     turns-print H S (omega (arith, z .n-least)) (atOnce (H .n)) (turning (H .n) (z .n-least) (z .n-most)) bs

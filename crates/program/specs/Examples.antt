@@ -13,24 +13,24 @@ use mathlib.Core.Path.{_≡_, refl}
 use mathlib.Core.List.{List, [], _∷_, _++_}
 use lib.Ieee.{ofBits, ofFields, odd, lt, le, eq}
 use lib.ListN.{take}
-use Rattle.counting.specs.Sum.{sum, same, differ}
-use Rattle.counting.specs.Search.{any, first}
-use Rattle.counting.specs.Lists.{listed, over}
-use Rattle.counting.specs.Integers.{sumℤ}
-use Rattle.packed_word.specs.Packed.{bitAt, packedByte, pack, distance}
-use Rattle.matrix.specs.Code.{entry, has, weight, common, fails, failing}
-use Rattle.matrix.specs.Check.{sizesFit, badEntry, badWeight, overlapping, listOf, checkOf}
-use Rattle.quantiser_levels.specs.Samples.{stepFits, settingFits, nearest, magnitude, levelOf, hardOf, hardBit, notFinite}
-use Rattle.iterative_rounds.specs.Rounds.{others, extrinsic, levelAfter, roundOf, endOf}
-use Rattle.iterative_core.specs.Iterative.{startOf, changedIn, changedBits, endFrom, reportAt, iterativeWord}
-use Rattle.program_numerals.specs.Numerals.{ascii, digit, digitsWithin, decimal, hex}
-use Rattle.program_text.specs.Output.{line, heading, shortText, refusedText, saidText, blockText}
-use Rattle.byte_numbers.specs.Numbers.{number16, number32, float, entryIn, entriesIn, sampleIn, samplesIn}
-use Rattle.program_input.specs.Input.{matrixIn, choiceIn}
-use Rattle.program_input.specs.Opening.{settingVerdict, openingVerdict}
-use Rattle.program_block.specs.Saying.{blockVerdict, blockSaid, blockLine}
-use Rattle.program_lines.specs.Blocks.{blockAt, blockLines, chunkText}
-use Rattle.program.specs.Program.{blocksText, restText, sizedText, printed}
+use Rattle.counting.specs.Paper.Sum.{sumBelow, same, unequal}
+use Rattle.counting.specs.Paper.Search.{anyBelow, first}
+use Rattle.counting.specs.Paper.Lists.{listed, over}
+use Rattle.counting.specs.Paper.Integers.{sumℤ}
+use Rattle.packed_word.specs.Paper.Packed.{bitAt, packedByte, pack, distance}
+use Rattle.matrix.specs.Paper.Code.{entry, has, weight, common, fails, failing}
+use Rattle.matrix.specs.Paper.Check.{sizesFit, badEntry, badWeight, overlapping, listOf, checkOf}
+use Rattle.quantiser_levels.specs.Paper.Samples.{stepFits, settingFits, nearestWhole, magnitude, levelOf, hardOf, hardBit, notFinite}
+use Rattle.iterative_rounds.specs.Paper.Rounds.{others, extrinsic, levelAfter, roundOf, endOf}
+use Rattle.iterative_core.specs.Paper.Iterative.{startOf, changedIn, changedBits, endFrom, reportAt, iterativeWord}
+use Rattle.program_numerals.specs.Paper.Numerals.{ascii, digit, digitsWithin, decimal, hex}
+use Rattle.program_text.specs.Paper.Output.{line, heading, shortText, refusedText, saidText, blockText}
+use Rattle.byte_numbers.specs.Paper.Numbers.{number16, number32, float, entryIn, entriesIn, sampleIn, samplesIn}
+use Rattle.program_input.specs.Paper.Input.{matrixIn, settingIn}
+use Rattle.program_input.specs.Paper.Opening.{settingVerdict, openingVerdict}
+use Rattle.program_block.specs.Paper.Block.{blockVerdict, blockSaid, blockLine}
+use Rattle.program_lines.specs.Paper.Blocks.{blockAt, blockLines, chunkText}
+use Rattle.program.specs.Paper.Program.{blocksText, restText, sizedText, printed}
 
 unfoldable pub low16 : List ℕ → List ℕ
 low16 [] = []
@@ -92,5 +92,5 @@ eachWanted (r ∷ rs) = (heading ++ ascii (r .text)) ∷ eachWanted rs
 
 -- the written definitions print it
 pub every-run : eachMade table ≡ eachWanted table
-unfolding table eachMade eachWanted inputA blockP6 blockInfinite blockP8 low16 low32 printed sizedText restText blocksText chunkText blockLines blockAt blockLine blockSaid blockVerdict settingVerdict openingVerdict number16 number32 float matrixIn entryIn entriesIn choiceIn sampleIn samplesIn digit digitsWithin decimal hex line heading shortText refusedText saidText blockText checkOf listOf sizesFit badEntry badWeight overlapping failing fails common weight has entry distance pack packedByte bitAt listed over any first sum same differ sumℤ stepFits settingFits nearest magnitude levelOf hardOf hardBit notFinite others extrinsic levelAfter roundOf endOf startOf changedBits changedIn endFrom reportAt iterativeWord ofBits ofFields odd lt le eq
+unfolding table eachMade eachWanted inputA blockP6 blockInfinite blockP8 low16 low32 printed sizedText restText blocksText chunkText blockLines blockAt blockLine blockSaid blockVerdict settingVerdict openingVerdict number16 number32 float matrixIn entryIn entriesIn settingIn sampleIn samplesIn digit digitsWithin decimal hex line heading shortText refusedText saidText blockText checkOf listOf sizesFit badEntry badWeight overlapping failing fails common weight has entry distance pack packedByte bitAt listed over anyBelow first sumBelow same unequal sumℤ stepFits settingFits nearestWhole magnitude levelOf hardOf hardBit notFinite others extrinsic levelAfter roundOf endOf startOf changedBits changedIn endFrom reportAt iterativeWord ofBits ofFields odd lt le eq
 every-run = refl

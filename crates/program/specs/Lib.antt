@@ -1,5 +1,5 @@
 -- What the contracts of `program` cite.
-pub mod Program
+pub mod Paper
 pub mod Pieces
 pub mod Turns
 pub mod Examples

@@ -1,15 +1,22 @@
 -- The run as it reads its input: piece by piece.
---   Lent a w l input out       == the run awaits a, which wants w bytes, and its buffers are long enough
+--   PieceLent a w l input out       == the run awaits a, which wants w bytes, and its buffers are long enough
+--   piecesText t a bs          == the texts of t replies from a on, each to the front of what is left of the input
 --   Piece a input a′ w e out   == the front of `input` came for a; a′ is awaited then, and the reply's text stands before e in `out`
 -- Assumes nothing.
-use Prim.Native.Nat.{ℕ, _≤_}
+use Prim.Native.Nat.{ℕ, zero, suc, _≤_}
 use mathlib.Core.Path.{_≡_}
-use mathlib.Core.List.{List}
-use lib.ListN.{length, take}
+use mathlib.Core.List.{List, [], _++_}
+use lib.ListN.{length, take, drop}
 use Rattle.program_ends.specs.Stages.{Awaited, wanted, replyTo}
 use Rattle.program_ends.specs.Replies.{Ready, Replied}
 
-pub record Lent (a : Awaited) (w : ℕ) (l input out : List ℕ) : Type 0 where
+-- a reply gets the bytes that it wants, or all that are left
+unfoldable pub piecesText : ℕ → Awaited → List ℕ → List ℕ
+piecesText zero a bs = []
+piecesText (suc t) a bs =
+    replyTo a (take (wanted a) bs) .text ++ piecesText t (replyTo a (take (wanted a) bs) .awaited) (drop (wanted a) bs)
+
+pub record PieceLent (a : Awaited) (w : ℕ) (l input out : List ℕ) : Type 0 where
   pub ready : Ready a
   pub want : w ≡ wanted a
   pub list : length l ≡ 32736

@@ -7,12 +7,12 @@ use mathlib.Core.Bool.{cond}
 use mathlib.Core.List.{List, [], _++_}
 use lib.Dec.{ltb, leb}
 use lib.ListN.{length, take, drop}
-use Rattle.matrix.specs.Code.{Matrix}
-use Rattle.quantiser_levels.specs.Samples.{Choice}
-use Rattle.program_lines.specs.Blocks.{chunkText}
+use Rattle.matrix.specs.Paper.Code.{Matrix}
+use Rattle.quantiser_levels.specs.Paper.Samples.{Setting}
+use Rattle.program_lines.specs.Paper.Blocks.{chunkText}
 
 -- the run ends where a turn finds less than it wants, and at the 65,535th block
-unfoldable pub turnsText : Matrix → Choice → (ℕ → ℕ) → ℕ → ℕ → List ℕ → List ℕ
+unfoldable pub turnsText : Matrix → Setting → (ℕ → ℕ) → ℕ → ℕ → List ℕ → List ℕ
 turnsText H S some zero i bs = []
 turnsText H S some (suc t) i bs =
     cond (leb 65535 i) []

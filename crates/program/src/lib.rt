@@ -5,7 +5,7 @@ use program_ends::Next;
 use program_ends::Stage;
 ghost use mathlib.Core.Path.{_≡_};
 ghost use Rattle.program_ends.specs.Replies.{awaitedOf};
-ghost use Rattle.program.specs.Pieces.{Lent, Piece};
+ghost use Rattle.program.specs.Pieces.{PieceLent, Piece};
 
 // Reads what a stage wants, and prints the reply.
 fn read_and_reply(
@@ -15,7 +15,7 @@ fn read_and_reply(
     input: &mut [u8],
     out: &mut [u8],
 ) -> Next
-    requires { ⌜ Lent (awaitedOf stage (now list)) want (now list) (now input) (now out) ⌝ }
+    requires { ⌜ PieceLent (awaitedOf stage (now list)) want (now list) (now input) (now out) ⌝ }
     ensures { λ r. ⌜ Piece (awaitedOf stage (now (list .entry))) (now (input .exit)) (awaitedOf (r .stage) (now (list .exit))) (r .want) (r .end) (now (out .exit)) ⌝ }
 {
     let got = program_io::read(input, want);
@@ -26,7 +26,7 @@ fn read_and_reply(
 
 // Reads and prints until nothing more is wanted. Answers how many bytes that is: none.
 fn until_done(first: Next, list: &mut [u16], input: &mut [u8], out: &mut [u8]) -> usize
-    requires { ⌜ Lent (awaitedOf (first .stage) (now list)) (first .want) (now list) (now input) (now out) ⌝ }
+    requires { ⌜ PieceLent (awaitedOf (first .stage) (now list)) (first .want) (now list) (now input) (now out) ⌝ }
     ensures { λ r. ⌜ r ≡ 0 ⌝ }
 {
     let mut stage = first.stage;

@@ -1,2 +1,2 @@
-pub mod Answering
-pub mod Printing
+pub mod Answers
+pub mod Lines

@@ -1,3 +1,3 @@
 -- What the contracts of `program_block` cite.
-pub mod Saying
-pub mod Lending
+pub mod Paper
+pub mod Loans

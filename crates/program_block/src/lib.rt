@@ -4,13 +4,13 @@ use answers::Answer;
 use answers::Refusal;
 use matrix_check::Shape;
 use quantiser::Setting;
-ghost use Rattle.answers.specs.Answers.{saidOf};
-ghost use Rattle.matrix.specs.Shapes.{matrixOf};
-ghost use Rattle.quantiser_settings.specs.Settings.{choiceOf};
-ghost use Rattle.program_numerals.specs.Putting.{PutWithin};
+ghost use Rattle.answers.specs.Paper.Enums.{saidOf};
+ghost use Rattle.matrix.specs.Paper.Shapes.{matrixOf};
+ghost use Rattle.quantiser_settings.specs.Paper.Settings.{settingOf};
+ghost use Rattle.program_numerals.specs.Texts.{PutWithin};
 ghost use Rattle.matrix_index.specs.Index.{Indexed};
-ghost use Rattle.program_block.specs.Lending.{Whole, Answered, Printable};
-ghost use Rattle.program_block.specs.Saying.{blockLine};
+ghost use Rattle.program_block.specs.Loans.{Whole, BlockAnswered, Printable};
+ghost use Rattle.program_block.specs.Paper.Block.{blockLine};
 
 // The answer of a block, and its word at the front of `word`. Only this repository's crates call it, after asking refusals 1 to 6.
 pub fn decode(
@@ -21,8 +21,8 @@ pub fn decode(
     bytes: &[u8],
     word: &mut [u8],
 ) -> Answer
-    requires { ⌜ Whole (matrixOf shape (now list)) (choiceOf setting) (now bytes) (now word) × Indexed (matrixOf shape (now list)) (now index) ⌝ }
-    ensures { λ r. ⌜ Answered (matrixOf shape (now (list .entry))) (choiceOf setting) (now (bytes .entry)) (saidOf r) (now (word .entry)) (now (word .exit)) ⌝ }
+    requires { ⌜ Whole (matrixOf shape (now list)) (settingOf setting) (now bytes) (now word) × Indexed (matrixOf shape (now list)) (now index) ⌝ }
+    ensures { λ r. ⌜ BlockAnswered (matrixOf shape (now (list .entry))) (settingOf setting) (now (bytes .entry)) (saidOf r) (now (word .entry)) (now (word .exit)) ⌝ }
 {
     let n = shape.n as usize;
     let mut xs = [0f32; 1023];
@@ -54,8 +54,8 @@ pub fn block(
     out: &mut [u8],
     at: usize,
 ) -> usize
-    requires { ⌜ Printable (matrixOf shape (now list)) (choiceOf setting) (now bytes) at (now out) × Indexed (matrixOf shape (now list)) (now index) ⌝ }
-    ensures { λ r. ⌜ PutWithin 289 (blockLine (matrixOf shape (now (list .entry))) (choiceOf setting) number (now (bytes .entry))) at (now (out .entry)) (now (out .exit)) r ⌝ }
+    requires { ⌜ Printable (matrixOf shape (now list)) (settingOf setting) (now bytes) at (now out) × Indexed (matrixOf shape (now list)) (now index) ⌝ }
+    ensures { λ r. ⌜ PutWithin 289 (blockLine (matrixOf shape (now (list .entry))) (settingOf setting) number (now (bytes .entry))) at (now (out .entry)) (now (out .exit)) r ⌝ }
 {
     let n = shape.n as usize;
     let mut word = [0u8; 128];

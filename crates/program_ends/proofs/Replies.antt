@@ -18,21 +18,22 @@ use native.Mathlib.Nat.{suc-mul, div-lt-iff-lt-mul}
 use native.Mathlib.Omega.{arith}
 use borrow.Author.Tests.{lt-ltb, le-ltb}
 use lib.ListN.{length, take}
-use Rattle.counting.specs.Lists.{over}
-use Rattle.counting.proofs.Writing.{take-over, length-listed}
-use Rattle.byte_numbers.specs.Numbers.{entryIn, entriesIn}
-use Rattle.matrix.specs.Code.{Matrix}
-use Rattle.matrix.specs.Check.{sizesFit}
-use Rattle.quantiser_levels.specs.Samples.{Choice}
-use Rattle.program_numerals.specs.Putting.{PutWithin}
+use Rattle.counting.specs.Paper.Lists.{over}
+use Rattle.counting.proofs.Writes.{take-over, length-listed}
+use Rattle.byte_numbers.specs.Paper.Numbers.{entryIn, entriesIn}
+use Rattle.matrix.specs.Paper.Code.{Matrix}
+use Rattle.matrix.specs.Paper.Check.{sizesFit}
+use Rattle.quantiser_levels.specs.Paper.Samples.{Setting}
+use Rattle.program_numerals.specs.Texts.{PutWithin}
 use Rattle.program_numerals.proofs.Puts.{put-front, put-length}
-use Rattle.program_text.specs.Output.{shortText, refusedText}
-use Rattle.program_input.specs.Input.{matrixIn, choiceIn}
-use Rattle.program_input.specs.Opening.{Opening, opening, openingVerdict, Decodable}
-use Rattle.program_lines.specs.Blocks.{blocksIn, chunkText}
-use Rattle.program_lines.specs.Lending.{Countable}
+use Rattle.program_text.specs.Paper.Output.{shortText, refusedText}
+use Rattle.program_input.specs.Paper.Input.{matrixIn, settingIn}
+use Rattle.program_input.specs.Paper.Opening.{Opening, opening, openingVerdict, Decodable}
+use Rattle.program_lines.specs.Paper.Blocks.{blocksIn, chunkText}
+use Rattle.program_lines.specs.Loans.{Countable}
 use Rattle.program_turns.specs.Turns.{atOnce, bytesAtOnce, AtOnce}
-use Rattle.program_ends.specs.Stages.{Awaited, theList, theSetting, blocksFrom, nothing, withList, Reply, ends, goesOn, openedReply, sizesReply, listReply, settingReply, blocksReply, replyTo}
+use Rattle.program_ends.specs.Stages.{Awaited, theList, theSetting, blocksFrom, withList, Reply, ends, goesOn, openedReply, sizesReply}
+use Rattle.program_ends.specs.Stages.{listReply, settingReply, blocksReply, replyTo}
 use Rattle.program_ends.specs.Replies.{awaitedOf, Asked, Replied}
 use Rattle.program_ends.specs.declared.Stage.{Stage}
 
@@ -80,7 +81,7 @@ module _ (H : Matrix) (bs : List ℕ) where
   unfolding settingReply
   setting-short h = rw (lt-ltb (length bs) 7 h)
 
-  pub setting-whole : 7 ≤ length bs → openedReply (opening (openingVerdict H (choiceIn bs)) (choiceIn bs)) H ≡ settingReply H bs
+  pub setting-whole : 7 ≤ length bs → openedReply (opening (openingVerdict H (settingIn bs)) (settingIn bs)) H ≡ settingReply H bs
   unfolding settingReply
   setting-whole h = rw (le-ltb (length bs) 7 h)
 
@@ -89,7 +90,7 @@ module _ (H : Matrix) (bs : List ℕ) where
 abbrev pub reply : List ℕ → Awaited → Reply
 reply t a = record { text = t; awaited = a }
 
-module _ (H : Matrix) (S : Choice) (i : ℕ) (bs : List ℕ) where
+module _ (H : Matrix) (S : Setting) (i : ℕ) (bs : List ℕ) where
   pub blocks-last : length bs < bytesAtOnce (H .n) i → ends (chunkText H S i bs) ≡ blocksReply H S i bs
   unfolding blocksReply
   blocks-last h = rw (lt-ltb (length bs) (bytesAtOnce (H .n) i) h)
@@ -114,7 +115,7 @@ pub opened-reply : (H : Matrix) {o p : Opening} → o ≡ p → {q : Opening} �
 opened-reply H e q = ap (λ (x : Opening). openedReply x H) (sym q ∙ e)
 
 -- the blocks that came may be printed
-pub countable : (H : Matrix) (S : Choice) {i k : ℕ} {bs out : List ℕ} → Decodable H S → AtOnce (H .n) i k → length bs ≤ k * (4 * H .n)
+pub countable : (H : Matrix) (S : Setting) {i k : ℕ} {bs out : List ℕ} → Decodable H S → AtOnce (H .n) i k → length bs ≤ k * (4 * H .n)
     → length out ≡ 65536 → Countable H S i bs 0 out
 countable H S {i} {k} {bs} d o h e =
     let some : 0 < 4 * H .n = omega (arith, d .matrix .sizes .n-least) in

@@ -4,32 +4,33 @@
 --   rank           == a bound on the stages that are left
 --   rank-falls     == it falls with each stage
 -- Assumes nothing.
-use mathlib.Core.Path.{_≡_, refl, ap, _∙_}
+use mathlib.Core.Path.{_≡_, refl, ap}
 use mathlib.Core.Bool.{Bool, true, false, cond}
 use mathlib.Core.List.{List, []}
-use Prim.Native.Nat.{ℕ, _+_, _*_, _-_, _≤_, _<_}
+use Prim.Native.Nat.{ℕ, _*_, _-_, _≤_, _<_}
 use native.Mathlib.Decide.{decLt}
 use native.Mathlib.Omega.{arith}
 use lib.Dec.{ltb}
 use lib.ListN.{length}
-use Rattle.matrix.specs.Code.{Matrix}
-use Rattle.matrix.specs.Check.{sizesFit}
-use Rattle.quantiser_levels.specs.Samples.{Choice}
-use Rattle.program_input.specs.Input.{matrixIn, choiceIn}
-use Rattle.program_input.specs.Opening.{Opening, refusedBy, openWith, opening, openingVerdict, Decodable}
+use Rattle.matrix.specs.Paper.Code.{Matrix}
+use Rattle.matrix.specs.Paper.Check.{sizesFit}
+use Rattle.quantiser_levels.specs.Paper.Samples.{Setting}
+use Rattle.program_input.specs.Paper.Input.{matrixIn, settingIn}
+use Rattle.program_input.specs.Paper.Opening.{Opening, refusedBy, openWith, opening, openingVerdict}
 use Rattle.program_input.proofs.Openings.{few, decodable}
 use Rattle.program_turns.specs.Turns.{atOnce, bytesAtOnce, AtOnce}
 use Rattle.program_turns.proofs.Turns.{many}
-use Rattle.program_ends.specs.Stages.{Awaited, theSizes, theList, theSetting, blocksFrom, nothing, wanted, Reply, openedReply, sizesReply, listReply, settingReply, blocksReply, replyTo}
+use Rattle.program_ends.specs.Stages.{Awaited, theSizes, theList, theSetting, blocksFrom, nothing, wanted, Reply, openedReply, sizesReply}
+use Rattle.program_ends.specs.Stages.{listReply, settingReply, blocksReply, replyTo}
 use Rattle.program_ends.specs.Replies.{Ready}
 
 -- ---- the blocks that are read at once, of an accepted matrix
 
-some-blocks : (H : Matrix) (S : Choice) (i : ℕ) → Ready (blocksFrom H S i) → AtOnce (H .n) i (atOnce (H .n) i)
+some-blocks : (H : Matrix) (S : Setting) (i : ℕ) → Ready (blocksFrom H S i) → AtOnce (H .n) i (atOnce (H .n) i)
 some-blocks H S i r = many (H .n) i (r .0 .matrix .sizes .n-least) (r .0 .matrix .sizes .n-most) (r .1)
 
 -- blocks are wanted before the 65,535th alone
-blocks-left : (H : Matrix) (S : Choice) (i : ℕ) → Ready (blocksFrom H S i) → 0 < bytesAtOnce (H .n) i → i < 65535
+blocks-left : (H : Matrix) (S : Setting) (i : ℕ) → Ready (blocksFrom H S i) → 0 < bytesAtOnce (H .n) i → i < 65535
 blocks-left H S i r h =
     elim (decLt i 65535) [
       | yes l ↦ l
@@ -51,7 +52,7 @@ by-test : {A : Type 0} (P : A → Type 0) (b : Bool) {x y : A} → (b ≡ true �
 by-test P true f g = f refl
 by-test P false f g = g refl
 
-opened-ready : (H : Matrix) (S : Choice) (o : Opening) → o ≡ opening (openingVerdict H S) S → Ready (openedReply o H .awaited)
+opened-ready : (H : Matrix) (S : Setting) (o : Opening) → o ≡ opening (openingVerdict H S) S → Ready (openedReply o H .awaited)
 opened-ready H S (refusedBy k x) e = tt
 opened-ready H S (openWith T) e = (decodable H S T e refl, omega arith)
 
@@ -63,7 +64,7 @@ unfolding sizesReply listReply settingReply blocksReply
 ready-next theSizes bs r =
     by-test ReadyNext (ltb (length bs) 8) (λ _. tt) (λ _. by-test ReadyNext (sizesFit (matrixIn bs [])) (λ e. e) (λ _. tt))
 ready-next (theList H) bs r = by-test ReadyNext (ltb (length bs) (2 * (H .m * H .rho))) (λ _. tt) (λ _. few H r)
-ready-next (theSetting H) bs r = by-test ReadyNext (ltb (length bs) 7) (λ _. tt) (λ _. opened-ready H (choiceIn bs) _ refl)
+ready-next (theSetting H) bs r = by-test ReadyNext (ltb (length bs) 7) (λ _. tt) (λ _. opened-ready H (settingIn bs) _ refl)
 ready-next (blocksFrom H S i) bs r =
     by-test Ready (ltb (length bs) (bytesAtOnce (H .n) i)) (λ _. tt) (λ _. (r .0, some-blocks H S i r .numbers))
 ready-next nothing bs r = tt
@@ -90,7 +91,8 @@ rank-falls theSizes bs r h =
     by-test (Lower 65538) (ltb (length bs) 8) (λ _. omega arith)
     (λ _. by-test (Lower 65538) (sizesFit (matrixIn bs [])) (λ _. omega arith) (λ _. omega arith))
 rank-falls (theList H) bs r h = by-test (Lower 65537) (ltb (length bs) (2 * (H .m * H .rho))) (λ _. omega arith) (λ _. omega arith)
-rank-falls (theSetting H) bs r h = by-test (Lower 65536) (ltb (length bs) 7) (λ _. omega arith) (λ _. opened-rank H (opening (openingVerdict H (choiceIn bs)) (choiceIn bs)))
+rank-falls (theSetting H) bs r h = by-test (Lower 65536) (ltb (length bs) 7) (λ _. omega arith)
+    (λ _. opened-rank H (opening (openingVerdict H (settingIn bs)) (settingIn bs)))
 rank-falls (blocksFrom H S i) bs r h =
     let l = blocks-left H S i r h in
     let o = some-blocks H S i r in

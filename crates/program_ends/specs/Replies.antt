@@ -9,10 +9,10 @@ use mathlib.Core.Path.{_≡_}
 use mathlib.Core.Bool.{true}
 use mathlib.Core.List.{List, []}
 use lib.ListN.{length, take}
-use Rattle.matrix.specs.Check.{sizesFit}
-use Rattle.matrix.specs.Shapes.{matrixOf}
-use Rattle.quantiser_settings.specs.Settings.{choiceOf}
-use Rattle.program_input.specs.Opening.{Decodable}
+use Rattle.matrix.specs.Paper.Check.{sizesFit}
+use Rattle.matrix.specs.Paper.Shapes.{matrixOf}
+use Rattle.quantiser_settings.specs.Paper.Settings.{settingOf}
+use Rattle.program_input.specs.Paper.Opening.{Decodable}
 use Rattle.program_ends.specs.Stages.{Awaited, theSizes, theList, theSetting, blocksFrom, nothing, wanted, Reply}
 use Rattle.program_ends.specs.declared.Stage.{Stage}
 use Rattle.program_ends.specs.declared.Stage.the-variants.{AtSizes, AtList, AtSetting, AtBlocks, AtEnd}
@@ -21,7 +21,7 @@ abbrev pub awaitedOf : Stage → List ℕ → Awaited
 awaitedOf AtSizes l = theSizes
 awaitedOf (AtList s) l = theList (matrixOf s [])
 awaitedOf (AtSetting s) l = theSetting (matrixOf s (take (s .m * s .rho) l))
-awaitedOf (AtBlocks s c i) l = blocksFrom (matrixOf s (take (s .m * s .rho) l)) (choiceOf c) i
+awaitedOf (AtBlocks s c i) l = blocksFrom (matrixOf s (take (s .m * s .rho) l)) (settingOf c) i
 awaitedOf AtEnd l = nothing
 
 abbrev pub Ready : Awaited → Type 0

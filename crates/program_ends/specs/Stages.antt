@@ -14,14 +14,14 @@ use mathlib.Core.Bool.{cond}
 use mathlib.Core.List.{List, []}
 use lib.Dec.{ltb}
 use lib.ListN.{length}
-use Rattle.byte_numbers.specs.Numbers.{entriesIn}
-use Rattle.matrix.specs.Code.{Matrix, matrix}
-use Rattle.matrix.specs.Check.{sizesFit}
-use Rattle.quantiser_levels.specs.Samples.{Choice}
-use Rattle.program_text.specs.Output.{heading, shortText, refusedText}
-use Rattle.program_input.specs.Input.{matrixIn, choiceIn}
-use Rattle.program_input.specs.Opening.{Opening, refusedBy, openWith, opening, openingVerdict}
-use Rattle.program_lines.specs.Blocks.{chunkText}
+use Rattle.byte_numbers.specs.Paper.Numbers.{entriesIn}
+use Rattle.matrix.specs.Paper.Code.{Matrix, matrix}
+use Rattle.matrix.specs.Paper.Check.{sizesFit}
+use Rattle.quantiser_levels.specs.Paper.Samples.{Setting}
+use Rattle.program_text.specs.Paper.Output.{heading, shortText, refusedText}
+use Rattle.program_input.specs.Paper.Input.{matrixIn, settingIn}
+use Rattle.program_input.specs.Paper.Opening.{Opening, refusedBy, openWith, opening, openingVerdict}
+use Rattle.program_lines.specs.Paper.Blocks.{chunkText}
 use Rattle.program_turns.specs.Turns.{atOnce, bytesAtOnce}
 
 -- the order of the input; a matrix has no list before it is read
@@ -29,7 +29,7 @@ pub data Awaited : Type 0 where
   theSizes : Awaited
   theList : Matrix → Awaited
   theSetting : Matrix → Awaited
-  blocksFrom : Matrix → Choice → ℕ → Awaited
+  blocksFrom : Matrix → Setting → ℕ → Awaited
   nothing : Awaited
 
 -- "n, m, ρ, γ and the list as 16-bit numbers"; "one byte each for b, round limit and step kind", and the step; "then blocks of n samples"
@@ -74,10 +74,10 @@ openedReply (openWith S) H = goesOn (blocksFrom H S 0)
 -- "the rest after the step"
 unfoldable pub settingReply : Matrix → List ℕ → Reply
 settingReply H bs =
-    cond (ltb (length bs) 7) (ends shortText) (openedReply (opening (openingVerdict H (choiceIn bs)) (choiceIn bs)) H)
+    cond (ltb (length bs) 7) (ends shortText) (openedReply (opening (openingVerdict H (settingIn bs)) (settingIn bs)) H)
 
 -- "then one line a block"; the run ends where fewer bytes come than are wanted
-unfoldable pub blocksReply : Matrix → Choice → ℕ → List ℕ → Reply
+unfoldable pub blocksReply : Matrix → Setting → ℕ → List ℕ → Reply
 blocksReply H S i bs =
     record {
       text = chunkText H S i bs;

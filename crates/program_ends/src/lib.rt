@@ -9,8 +9,8 @@ ghost use Prim.Native.Nat.{ℕ, _*_, _≤_};
 ghost use mathlib.Core.Path.{_≡_};
 ghost use mathlib.Core.List.{List, []};
 ghost use lib.ListN.{length, take};
-ghost use Rattle.matrix.specs.Shapes.{matrixOf};
-ghost use Rattle.quantiser_settings.specs.Settings.{choiceOf};
+ghost use Rattle.matrix.specs.Paper.Shapes.{matrixOf};
+ghost use Rattle.quantiser_settings.specs.Paper.Settings.{settingOf};
 ghost use Rattle.program_ends.specs.Stages.{theList, theSetting, blocksFrom, firstReply, ends, sizesReply, listReply, settingReply, blocksReply, replyTo};
 ghost use Rattle.program_turns.specs.Turns.{bytesAtOnce};
 ghost use Rattle.program_ends.specs.Replies.{awaitedOf, Asked, Replied};
@@ -67,7 +67,7 @@ fn ended(out: &[u8], end: usize) -> Next
 // Blocks are awaited, from `number` on, once the text that stands before `end` is printed.
 fn at_blocks(shape: Shape, setting: Setting, number: u16, end: usize) -> Next
     requires { ⌜ (2 ≤ shape .n) × (shape .n ≤ 1023) ⌝ }
-    ensures { λ r. ⌜ ((l : List ℕ) → awaitedOf (r .stage) l ≡ blocksFrom (matrixOf shape (take (shape .m * shape .rho) l)) (choiceOf setting) number) × (r .want ≡ bytesAtOnce (shape .n) number) × (r .end ≡ end) ⌝ }
+    ensures { λ r. ⌜ ((l : List ℕ) → awaitedOf (r .stage) l ≡ blocksFrom (matrixOf shape (take (shape .m * shape .rho) l)) (settingOf setting) number) × (r .want ≡ bytesAtOnce (shape .n) number) × (r .end ≡ end) ⌝ }
 {
     let n = shape.n as usize;
     let want = program_turns::at_once(n, number) * (4 * n);
@@ -147,8 +147,8 @@ fn after_blocks(
     bytes: &[u8],
     out: &mut [u8],
 ) -> Next
-    requires { ⌜ Asked (blocksFrom (matrixOf shape (take (shape .m * shape .rho) (now list))) (choiceOf setting) number) (now list) (now bytes) (now out) ⌝ }
-    ensures { λ r. ⌜ Replied (blocksReply (matrixOf shape (take (shape .m * shape .rho) (now (list .entry)))) (choiceOf setting) number (now (bytes .entry))) (awaitedOf (r .stage) (now (list .entry))) (r .want) (r .end) (now (out .exit)) ⌝ }
+    requires { ⌜ Asked (blocksFrom (matrixOf shape (take (shape .m * shape .rho) (now list))) (settingOf setting) number) (now list) (now bytes) (now out) ⌝ }
+    ensures { λ r. ⌜ Replied (blocksReply (matrixOf shape (take (shape .m * shape .rho) (now (list .entry)))) (settingOf setting) number (now (bytes .entry))) (awaitedOf (r .stage) (now (list .entry))) (r .want) (r .end) (now (out .exit)) ⌝ }
 {
     let n = shape.n as usize;
     let some = program_turns::at_once(n, number);

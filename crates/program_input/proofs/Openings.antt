@@ -8,14 +8,14 @@ use native.Mathlib.Omega.{arith}
 use lib.Dec.{eqb}
 use lib.ListN.{length}
 use Rattle.counting.proofs.Searches.{cases}
-use Rattle.answers.specs.Paper.{Verdict, accepted, refused, refuseWhen, andThen}
-use Rattle.matrix.specs.Code.{Matrix}
-use Rattle.matrix.specs.Check.{sizesFit, checkOf}
-use Rattle.matrix.specs.Reading.{length-wrong}
-use Rattle.matrix.proofs.Reading.{sizes-say, reads-only, accepted-is}
+use Rattle.answers.specs.Paper.Answers.{Verdict, accepted, refused, refuseWhen, andThen}
+use Rattle.matrix.specs.Paper.Code.{Matrix}
+use Rattle.matrix.specs.Paper.Check.{sizesFit, checkOf}
+use Rattle.matrix.specs.Paper.PlainCheck.{length-wrong}
+use Rattle.matrix.proofs.PlainCheck.{sizes-say, reads-only, accepted-is}
 use Rattle.matrix.proofs.Rows.{few-entries}
-use Rattle.quantiser_levels.specs.Samples.{Choice, settingFits}
-use Rattle.program_input.specs.Opening.{Decodable, Opening, refusedBy, openWith, opening, settingVerdict, openingVerdict}
+use Rattle.quantiser_levels.specs.Paper.Samples.{Setting, settingFits}
+use Rattle.program_input.specs.Paper.Opening.{Decodable, Opening, refusedBy, openWith, opening, settingVerdict, openingVerdict}
 
 -- a verdict's number, 0 where it accepts
 abbrev pub numberIn : Verdict → ℕ
@@ -42,23 +42,23 @@ module _ (H : Matrix) where
       (λ o. ap (λ (v : Verdict). eqb (numberIn v) 1) (sizes-first o) ∙ sym (ap not o))
 
   -- an accepted matrix leaves it to the setting, a refused one does not
-  pub matrix-passes : (S : Choice) → checkOf H ≡ accepted → opening (settingVerdict S) S ≡ opening (openingVerdict H S) S
+  pub matrix-passes : (S : Setting) → checkOf H ≡ accepted → opening (settingVerdict S) S ≡ opening (openingVerdict H S) S
   unfolding openingVerdict
   matrix-passes S e = rw e
 
-  pub matrix-refuses : (S : Choice) {k x : ℕ} → checkOf H ≡ refused k x → refusedBy k x ≡ opening (openingVerdict H S) S
+  pub matrix-refuses : (S : Setting) {k x : ℕ} → checkOf H ≡ refused k x → refusedBy k x ≡ opening (openingVerdict H S) S
   unfolding openingVerdict
   matrix-refuses S e = rw e
 
 -- ---- a run that begins has an accepted matrix and a setting in range
 
-differs : {S : Choice} {k x : ℕ} → openWith S ≡ refusedBy k x → ⊥
+differs : {S : Setting} {k x : ℕ} → openWith S ≡ refusedBy k x → ⊥
 differs e = let z : _≡_ {A = ℕ} 0 1 = cc in omega arith
 
-same-choice : {S T : Choice} → openWith T ≡ openWith S → T ≡ S
+same-choice : {S T : Setting} → openWith T ≡ openWith S → T ≡ S
 same-choice e = cc
 
-module _ (H : Matrix) (S T : Choice) where
+module _ (H : Matrix) (S T : Setting) where
   by-tests : (v : Verdict) → checkOf H ≡ v → (b : Bool) → settingFits S ≡ b → openWith T ≡ opening (andThen v (refuseWhen 6 (not b) accepted)) S → Decodable H T
   by-tests accepted p true q e = record { matrix = accepted-is H p; setting = ap settingFits (same-choice e) ∙ q }
   by-tests accepted p false q e = absurd (differs e)

@@ -9,10 +9,10 @@ use lib.Ieee.Scale.{finite}
 use lib.ListN.{getD}
 use borrow.Author.Tests.{lt-leb}
 use Rattle.counting.proofs.Searches.{never}
-use Rattle.quantiser_levels.specs.Samples.{Choice, rangesFit, stepFits, settingFits}
-use Rattle.byte_numbers.specs.Numbers.{float}
-use Rattle.program_input.specs.Input.{choiceIn}
-use Rattle.program_input.specs.Opening.{refusedBy, openWith, opening, settingVerdict}
+use Rattle.quantiser_levels.specs.Paper.Samples.{Setting, rangesFit, stepFits, settingFits}
+use Rattle.byte_numbers.specs.Paper.Numbers.{float}
+use Rattle.program_input.specs.Paper.Input.{settingIn}
+use Rattle.program_input.specs.Paper.Opening.{refusedBy, openWith, opening, settingVerdict}
 
 -- a step that is not finite is out of range
 step-unfit : (x : Float) → finite x ≡ false → stepFits x ≡ false
@@ -22,12 +22,12 @@ step-unfit (inf true) h = refl
 step-unfit (inf false) h = refl
 step-unfit (fin s m e) h = absurd (never h)
 
-abbrev pub choice : ℕ → ℕ → ℕ → Float → Choice
-choice b l k x = record { bits = b; limit = l; kind = k; step = x }
+abbrev pub settingBy : ℕ → ℕ → ℕ → Float → Setting
+settingBy b l k x = record { bits = b; limit = l; kind = k; step = x }
 
 -- the setting by its parts
-pub choice-is : (bs : List ℕ) {b l k : ℕ} {x : Float} → b ≡ getD bs 0 0 → l ≡ getD bs 1 0 → k ≡ getD bs 2 0 → x ≡ float bs 3 → choice b l k x ≡ choiceIn bs
-unfolding choiceIn
+pub choice-is : (bs : List ℕ) {b l k : ℕ} {x : Float} → b ≡ getD bs 0 0 → l ≡ getD bs 1 0 → k ≡ getD bs 2 0 → x ≡ float bs 3 → settingBy b l k x ≡ settingIn bs
+unfolding settingIn
 choice-is bs p q r s = rw (p, q, r, s)
 
 -- a conjunction fails where its last part does
@@ -35,7 +35,7 @@ and-off : (a : Bool) {b : Bool} → b ≡ false → (a && b) ≡ false
 and-off true e = e
 and-off false e = refl
 
-module _ (S : Choice) where
+module _ (S : Setting) where
   last-unfit : (leb (S .kind) 1 && stepFits (S .step)) ≡ false → settingFits S ≡ false
   unfolding settingFits
   last-unfit e = and-off (rangesFit (S .bits) (S .limit)) e

@@ -1,4 +1,3 @@
 -- What the contracts of `program_input` cite.
-pub mod Input
-pub mod Opening
+pub mod Paper
 pub mod Runs

@@ -14,11 +14,11 @@ ghost use mathlib.Core.Path.{_≡_};
 ghost use mathlib.Core.Bool.{not};
 ghost use mathlib.Core.List.{[]};
 ghost use lib.ListN.{length};
-ghost use Rattle.matrix.specs.Check.{sizesFit};
-ghost use Rattle.matrix.specs.Shapes.{matrixOf};
-ghost use Rattle.quantiser_settings.specs.Settings.{kindOf, stepOf};
-ghost use Rattle.program_input.specs.Input.{matrixIn, choiceIn};
-ghost use Rattle.program_input.specs.Opening.{opening, settingVerdict, openingVerdict};
+ghost use Rattle.matrix.specs.Paper.Check.{sizesFit};
+ghost use Rattle.matrix.specs.Paper.Shapes.{matrixOf};
+ghost use Rattle.quantiser_settings.specs.Paper.Settings.{kindOf, floatOf};
+ghost use Rattle.program_input.specs.Paper.Input.{matrixIn, settingIn};
+ghost use Rattle.program_input.specs.Paper.Opening.{opening, settingVerdict, openingVerdict};
 ghost use Rattle.program_input.specs.Runs.{openedOf};
 
 // How a run begins: with a setting, or refused.
@@ -43,7 +43,7 @@ pub fn sizes(bytes: &[u8]) -> Shape
 // The step of its kind.
 fn step_by(kind: u8, d: f32) -> Step
     requires { ⌜ kind ≤ 1 ⌝ }
-    ensures { λ r. ⌜ (kindOf r ≡ kind) × (stepOf r ≡ d) ⌝ }
+    ensures { λ r. ⌜ (kindOf r ≡ kind) × (floatOf r ≡ d) ⌝ }
 {
     if kind == 0 {
         Step::Level(d)
@@ -56,7 +56,7 @@ fn step_by(kind: u8, d: f32) -> Step
 // Only this repository's crates call it, with seven bytes at least.
 pub fn setting(bytes: &[u8]) -> Opened
     requires { ⌜ 7 ≤ length (now bytes) ⌝ }
-    ensures { λ r. ⌜ openedOf r ≡ opening (settingVerdict (choiceIn (now (bytes .entry)))) (choiceIn (now (bytes .entry))) ⌝ }
+    ensures { λ r. ⌜ openedOf r ≡ opening (settingVerdict (settingIn (now (bytes .entry)))) (settingIn (now (bytes .entry))) ⌝ }
 {
     let kind = bytes[2];
     let p = number32(bytes, 3);
@@ -94,7 +94,7 @@ pub fn sizes_refused(shape: Shape) -> bool
 // Only this repository's crates call it, with seven bytes at least.
 pub fn begin(shape: Shape, list: &[u16], bytes: &[u8]) -> Opened
     requires { ⌜ 7 ≤ length (now bytes) ⌝ }
-    ensures { λ r. ⌜ openedOf r ≡ opening (openingVerdict (matrixOf shape (now (list .entry))) (choiceIn (now (bytes .entry)))) (choiceIn (now (bytes .entry))) ⌝ }
+    ensures { λ r. ⌜ openedOf r ≡ opening (openingVerdict (matrixOf shape (now (list .entry))) (settingIn (now (bytes .entry)))) (settingIn (now (bytes .entry))) ⌝ }
 {
     let checked = matrix_check::check(shape, list);
     match checked {

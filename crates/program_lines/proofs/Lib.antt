@@ -1,1 +1,1 @@
-pub mod Lining
+pub mod BlockLines

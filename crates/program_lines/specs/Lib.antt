@@ -1,3 +1,3 @@
 -- What the contracts of `program_lines` cite.
-pub mod Blocks
-pub mod Lending
+pub mod Paper
+pub mod Loans

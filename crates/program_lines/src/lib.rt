@@ -4,12 +4,12 @@ use matrix_check::Shape;
 use program_block::block;
 use quantiser::Setting;
 ghost use Prim.Native.Nat.{_+_, _*_};
-ghost use Rattle.matrix.specs.Shapes.{matrixOf};
-ghost use Rattle.quantiser_settings.specs.Settings.{choiceOf};
-ghost use Rattle.program_numerals.specs.Putting.{PutWithin};
+ghost use Rattle.matrix.specs.Paper.Shapes.{matrixOf};
+ghost use Rattle.quantiser_settings.specs.Paper.Settings.{settingOf};
+ghost use Rattle.program_numerals.specs.Texts.{PutWithin};
 ghost use Rattle.matrix_index.specs.Index.{Indexed};
-ghost use Rattle.program_lines.specs.Lending.{Countable};
-ghost use Rattle.program_lines.specs.Blocks.{blocksIn, blockLines, chunkText};
+ghost use Rattle.program_lines.specs.Loans.{Countable};
+ghost use Rattle.program_lines.specs.Paper.Blocks.{blocksIn, blockLines, chunkText};
 
 // The lines of the whole blocks that the bytes begin with, numbered from `number`.
 fn lines(
@@ -22,8 +22,8 @@ fn lines(
     out: &mut [u8],
     at: usize,
 ) -> usize
-    requires { ⌜ Countable (matrixOf shape (now list)) (choiceOf setting) number (now bytes) at (now out) × Indexed (matrixOf shape (now list)) (now index) ⌝ }
-    ensures { λ r. ⌜ PutWithin (289 * blocksIn (matrixOf shape (now (list .entry))) (now (bytes .entry))) (blockLines (matrixOf shape (now (list .entry))) (choiceOf setting) number (blocksIn (matrixOf shape (now (list .entry))) (now (bytes .entry))) (now (bytes .entry))) at (now (out .entry)) (now (out .exit)) r ⌝ }
+    requires { ⌜ Countable (matrixOf shape (now list)) (settingOf setting) number (now bytes) at (now out) × Indexed (matrixOf shape (now list)) (now index) ⌝ }
+    ensures { λ r. ⌜ PutWithin (289 * blocksIn (matrixOf shape (now (list .entry))) (now (bytes .entry))) (blockLines (matrixOf shape (now (list .entry))) (settingOf setting) number (blocksIn (matrixOf shape (now (list .entry))) (now (bytes .entry))) (now (bytes .entry))) at (now (out .entry)) (now (out .exit)) r ⌝ }
 {
     let size = 4 * (shape.n as usize);
     let mut k: u16 = 0;
@@ -57,8 +57,8 @@ fn all_lines(
     out: &mut [u8],
     at: usize,
 ) -> usize
-    requires { ⌜ Countable (matrixOf shape (now list)) (choiceOf setting) number (now bytes) at (now out) ⌝ }
-    ensures { λ r. ⌜ PutWithin (289 * blocksIn (matrixOf shape (now (list .entry))) (now (bytes .entry))) (blockLines (matrixOf shape (now (list .entry))) (choiceOf setting) number (blocksIn (matrixOf shape (now (list .entry))) (now (bytes .entry))) (now (bytes .entry))) at (now (out .entry)) (now (out .exit)) r ⌝ }
+    requires { ⌜ Countable (matrixOf shape (now list)) (settingOf setting) number (now bytes) at (now out) ⌝ }
+    ensures { λ r. ⌜ PutWithin (289 * blocksIn (matrixOf shape (now (list .entry))) (now (bytes .entry))) (blockLines (matrixOf shape (now (list .entry))) (settingOf setting) number (blocksIn (matrixOf shape (now (list .entry))) (now (bytes .entry))) (now (bytes .entry))) at (now (out .entry)) (now (out .exit)) r ⌝ }
 {
     let mut index = [0u16; 32736];
     matrix_index::build(shape, list, &mut index);
@@ -76,8 +76,8 @@ pub fn chunk(
     out: &mut [u8],
     at: usize,
 ) -> usize
-    requires { ⌜ Countable (matrixOf shape (now list)) (choiceOf setting) number (now bytes) at (now out) ⌝ }
-    ensures { λ r. ⌜ PutWithin (289 * blocksIn (matrixOf shape (now (list .entry))) (now (bytes .entry)) + 6) (chunkText (matrixOf shape (now (list .entry))) (choiceOf setting) number (now (bytes .entry))) at (now (out .entry)) (now (out .exit)) r ⌝ }
+    requires { ⌜ Countable (matrixOf shape (now list)) (settingOf setting) number (now bytes) at (now out) ⌝ }
+    ensures { λ r. ⌜ PutWithin (289 * blocksIn (matrixOf shape (now (list .entry))) (now (bytes .entry)) + 6) (chunkText (matrixOf shape (now (list .entry))) (settingOf setting) number (now (bytes .entry))) at (now (out .entry)) (now (out .exit)) r ⌝ }
 {
     let size = 4 * (shape.n as usize);
     let end = all_lines(shape, list, setting, number, bytes, out, at);

@@ -6,8 +6,8 @@ use native.Mathlib.Decide.{decLt}
 use native.Mathlib.Omega.{arith}
 use lib.ListN.{length, length-append}
 use borrow.Author.Tests.{lt-ltb, le-ltb}
-use Rattle.program_numerals.specs.Putting.{Put}
-use Rattle.program_numerals.specs.Numerals.{digit, digitsWithin, decimal, hex}
+use Rattle.program_numerals.specs.Texts.{Put}
+use Rattle.program_numerals.specs.Paper.Numerals.{digit, digitsWithin, decimal, hex}
 
 -- ---- decimal digits
 

@@ -7,7 +7,7 @@ use native.Mathlib.Omega.{arith}
 use lib.ListN.{length, take, length-append}
 use lib.Seq.{sets, length-sets, sets-eq, take-at, length-take-le}
 use Rattle.counting.proofs.Stores.{sets-append}
-use Rattle.program_numerals.specs.Putting.{Put}
+use Rattle.program_numerals.specs.Texts.{Put}
 
 -- no text
 pub put-none : (at : ℕ) (out : List ℕ) → Put [] at out out at

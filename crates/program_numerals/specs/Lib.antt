@@ -1,3 +1,3 @@
 -- What the contracts of `program_numerals` cite.
-pub mod Numerals
-pub mod Putting
+pub mod Paper
+pub mod Texts

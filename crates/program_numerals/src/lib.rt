@@ -5,8 +5,8 @@ ghost use Prim.Native.Nat.{_+_, _*_, _%_, _≤_, _<_};
 ghost use mathlib.Core.Path.{_≡_};
 ghost use mathlib.Core.List.{[], _∷_, _++_};
 ghost use lib.ListN.{length};
-ghost use Rattle.program_numerals.specs.Numerals.{ascii, digit as Numerals·digit, decimal, hex};
-ghost use Rattle.program_numerals.specs.Putting.{Room, Put, PutWithin};
+ghost use Rattle.program_numerals.specs.Paper.Numerals.{ascii, digit as Numerals·digit, decimal, hex};
+ghost use Rattle.program_numerals.specs.Texts.{Room, Put, PutWithin};
 
 // The digit of a number below 16.
 fn digit(d: u8) -> u8

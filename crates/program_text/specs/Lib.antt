@@ -1,2 +1,2 @@
 -- What the contracts of `program_text` cite.
-pub mod Output
+pub mod Paper

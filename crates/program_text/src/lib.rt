@@ -8,10 +8,10 @@ use answers::Report;
 ghost use Prim.Native.Nat.{_+_, _*_, _≤_};
 ghost use mathlib.Core.List.{_++_};
 ghost use lib.ListN.{length};
-ghost use Rattle.answers.specs.Answers.{numberOf, placeOf, outcomeOf, reportOf, saidOf};
-ghost use Rattle.program_numerals.specs.Numerals.{ascii};
-ghost use Rattle.program_numerals.specs.Putting.{PutWithin};
-ghost use Rattle.program_text.specs.Output.{heading, shortText, refusedText, outcomeText, saidText, blockText};
+ghost use Rattle.answers.specs.Paper.Enums.{numberOf, placeOf, outcomeOf, reportOf, saidOf};
+ghost use Rattle.program_numerals.specs.Paper.Numerals.{ascii};
+ghost use Rattle.program_numerals.specs.Texts.{PutWithin};
+ghost use Rattle.program_text.specs.Paper.Output.{heading, shortText, refusedText, outcomeText, saidText, blockText};
 
 // The outcome's word and a space. A whole call that has not decoded has failed.
 fn put_outcome(out: &mut [u8], at: usize, o: Outcome) -> usize

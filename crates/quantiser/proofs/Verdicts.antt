@@ -12,21 +12,22 @@ use lib.Ieee.{Float, nan}
 use lib.Ieee.Scale.{finite}
 use lib.ListN.{length, getD}
 use borrow.Author.Tests.{ltb-false, lt-ltb, le-ltb}
-use Rattle.counting.specs.Lists.{listed, over}
+use Rattle.counting.specs.Paper.Lists.{listed, over}
 use Rattle.counting.specs.Places.{at}
 use Rattle.counting.proofs.Searches.{cases, or-left, or-right, or-neither, first-none, first-le}
-use Rattle.answers.specs.Paper.{Verdict, accepted, refused, written}
+use Rattle.answers.specs.Paper.Answers.{Verdict, accepted, refused, written}
 use Rattle.answers.proofs.Verdicts.{not-accepted}
-use Rattle.packed_word.specs.Packed.{bytesFor, pack}
-use Rattle.packed_word.proofs.Packing.{pack-cong}
-use Rattle.quantiser_levels.specs.Samples.{Choice, settingFits, levelsOf, hardBit, hardWord, notFinite, firstNotFinite, quantiseVerdict}
-use Rattle.quantiser.specs.Reading.{Acceptable}
-use Rattle.quantiser.specs.Filling.{tooShort, Filled, Quantised}
+use Rattle.packed_word.specs.Paper.Packed.{bytesFor, pack}
+use Rattle.packed_word.proofs.Packed.{pack-cong}
+use Rattle.quantiser_levels.specs.Paper.Samples.{Setting, settingFits, levelsOf, hardBit, hardWord, notFinite, firstNotFinite, quantiseVerdict}
+use Rattle.quantiser.specs.Paper.PlainCall.{Acceptable}
+use Rattle.quantiser.specs.Buffers.{tooShort, Filled}
+use Rattle.quantiser.specs.Paper.Call.{Quantised}
 use Rattle.quantiser_settings.proofs.Ranges.{fits-reads, reads-fits, all-finite}
 
 -- ---- the verdict
 
-module _ (S : Choice) (xs : List Float) (l b : ℕ) where
+module _ (S : Setting) (xs : List Float) (l b : ℕ) where
   pub verdict-setting : settingFits S ≡ false → quantiseVerdict S xs l b ≡ refused 6 0
   unfolding quantiseVerdict
   verdict-setting e = rw e
@@ -55,7 +56,7 @@ long-enough n l b e =
 
 -- ---- accepted exactly when no refusal applies
 
-module _ (S : Choice) (xs : List Float) (l b : ℕ) where
+module _ (S : Setting) (xs : List Float) (l b : ℕ) where
   pub accepted-reads : quantiseVerdict S xs l b ≡ accepted → Acceptable S xs l b
   accepted-reads e =
       cases (settingFits S)
@@ -84,7 +85,7 @@ module _ (S : Choice) (xs : List Float) (l b : ℕ) where
 
 -- ---- what is written
 
-module _ {S : Choice} {xs : List Float} {ls : List ℤ} {w : List ℕ} where
+module _ {S : Setting} {xs : List Float} {ls : List ℤ} {w : List ℕ} where
   -- a refused call leaves both buffers
   pub quantised-refused : {k x : ℕ} → quantiseVerdict S xs (length ls) (length w) ≡ refused k x → Quantised S xs (refused k x) ls ls w w
   quantised-refused e =
@@ -111,12 +112,12 @@ module _ {S : Choice} {xs : List Float} {ls : List ℤ} {w : List ℕ} where
 -- ---- no samples
 
 -- they are accepted, whatever the buffers
-pub no-samples : (S : Choice) (l b : ℕ) → settingFits S ≡ true → quantiseVerdict S [] l b ≡ accepted
+pub no-samples : (S : Setting) (l b : ℕ) → settingFits S ≡ true → quantiseVerdict S [] l b ≡ accepted
 no-samples S l b e =
     reads-accepted S [] l b
     (record { setting = fits-reads S e; few = omega arith; levels = omega arith; bytes = omega arith; each = λ j h. absurd (not-suc-le-zero h) })
 
 -- and nothing is written
-pub nothing-written : (S : Choice) (ls : List ℤ) (w : List ℕ) → (over (levelsOf S []) ls ≡ ls) × (over (hardWord []) w ≡ w)
+pub nothing-written : (S : Setting) (ls : List ℤ) (w : List ℕ) → (over (levelsOf S []) ls ≡ ls) × (over (hardWord []) w ≡ w)
 unfolding over levelsOf hardWord pack listed
 nothing-written S ls w = (refl, refl)

@@ -1,4 +1,4 @@
 -- What the contracts of `quantiser` cite, and document 01's examples.
-pub mod Filling
-pub mod Reading
+pub mod Paper
 pub mod Examples
+pub mod Buffers

@@ -13,11 +13,12 @@ pub use quantiser_settings::Step;
 use quantiser_settings::scale_of;
 pub use quantiser_settings::setting_fits;
 ghost use mathlib.Core.Path.{_≡_};
-ghost use Rattle.answers.specs.Answers.{verdictOf};
-ghost use Rattle.quantiser_levels.specs.Samples.{firstNotFinite};
-ghost use Rattle.quantiser_levels.specs.Scaling.{Narrow};
-ghost use Rattle.quantiser_settings.specs.Settings.{choiceOf};
-ghost use Rattle.quantiser.specs.Filling.{tooShort, Roomy, FilledBy, Fillable, Filled, Quantised};
+ghost use Rattle.answers.specs.Paper.Enums.{verdictOf};
+ghost use Rattle.quantiser_levels.specs.Paper.Samples.{firstNotFinite};
+ghost use Rattle.quantiser_levels.specs.Scale.{Narrow};
+ghost use Rattle.quantiser_settings.specs.Paper.Settings.{settingOf};
+ghost use Rattle.quantiser.specs.Buffers.{tooShort, Roomy, FilledBy, Fillable, Filled};
+ghost use Rattle.quantiser.specs.Paper.Call.{Quantised};
 
 // The place of the first sample that is not finite, or how many samples there are.
 pub fn first_not_finite(samples: &[f32]) -> usize
@@ -52,8 +53,8 @@ fn fill_by(scale: Scale, samples: &[f32], levels: &mut [Cell], cells: &mut [u8])
 // Writes the levels of the samples, and their hard bits one to a cell. Only this repository's crates call it, after asking the refusals.
 // The array is lent as a slice, since the loan says that it has 1023 cells.
 pub fn fill(setting: Setting, samples: &[f32], levels: &mut [Cell], bits: &mut [u8; 1023])
-    requires { ⌜ Fillable (choiceOf setting) (now samples) (now levels) ⌝ }
-    ensures { λ _. ⌜ Filled (choiceOf setting) (now (samples .entry)) (now (levels .entry)) (now (levels .exit)) (now (bits .entry)) (now (bits .exit)) ⌝ }
+    requires { ⌜ Fillable (settingOf setting) (now samples) (now levels) ⌝ }
+    ensures { λ _. ⌜ Filled (settingOf setting) (now (samples .entry)) (now (levels .entry)) (now (levels .exit)) (now (bits .entry)) (now (bits .exit)) ⌝ }
 {
     fill_by(scale_of(setting), samples, levels, bits);
 }
@@ -73,7 +74,7 @@ fn too_short(n: usize, levels: usize, bytes: usize) -> bool
 
 // Writes the levels of the samples and their hard bits packed as a word, or says why not and writes nothing.
 pub fn quantise(setting: Setting, samples: &[f32], levels: &mut [Cell], word: &mut [u8]) -> Checked
-    ensures { λ r. ⌜ Quantised (choiceOf setting) (now (samples .entry)) (verdictOf r) (now (levels .entry)) (now (levels .exit)) (now (word .entry)) (now (word .exit)) ⌝ }
+    ensures { λ r. ⌜ Quantised (settingOf setting) (now (samples .entry)) (verdictOf r) (now (levels .entry)) (now (levels .exit)) (now (word .entry)) (now (word .exit)) ⌝ }
 {
     let n = samples.len();
     if !setting_fits(setting) {

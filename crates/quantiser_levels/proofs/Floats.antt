@@ -11,8 +11,8 @@ use lib.Ieee.Fits.{down-pos, and-l, and-r}
 use lib.Ieee.Exact.{HasValue, odd-sign}
 use lib.Ieee.Positive.{positive, num, den, den-pos, own-value, positive-finite, between, values-of-le}
 use lib.Ieee.Scale.{finite}
-use Rattle.quantiser_levels.specs.Samples.{units, stepFits}
-use Rattle.quantiser_levels.specs.Scaling.{Digits, Apart}
+use Rattle.quantiser_levels.specs.Paper.Samples.{unitsOf, stepFits}
+use Rattle.quantiser_levels.specs.Scale.{Digits, Apart}
 
 -- ---- the two tests of `is_finite`
 
@@ -99,14 +99,14 @@ module _ (x : Float) (e : stepFits x ≡ true) where
   pub step-finite : T (finite x)
   step-finite = positive-finite x above-zero
 
-  step-from : 2 ^ 129 ≤ units x
+  step-from : 2 ^ 129 ≤ unitsOf x
   step-from =
       le-div-iff-mul-le (den-pos x) .1
       (values-of-le (fin false 1 (negsuc 19)) x (2 ^ 129) (2 ^ 149) (num x) (den x) tt above-zero (refl, refl) (own-value x above-zero) least-le)
 
   pub step-lead : {s : Bool} {n : ℕ} (k : ℕ) → Apart x s n k → 2 ^ 23 ≤ n
   step-lead {s} {n} zero a =
-      let l : 2 ^ 24 ≤ units x = le-trans (lit≤ tt) step-from in
-      let v : units x ≡ n = a .value ∙ mul-one n in
+      let l : 2 ^ 24 ≤ unitsOf x = le-trans (lit≤ tt) step-from in
+      let v : unitsOf x ≡ n = a .value ∙ mul-one n in
       omega (arith, a .digits .below)
   step-lead (suc k) a = a .digits .lead (omega arith)

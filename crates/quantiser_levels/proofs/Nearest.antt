@@ -8,8 +8,8 @@ use native.Mathlib.Omega.{arith}
 use lib.Dec.{lit≤}
 use lib.Arith.{mul-pred, digits-div}
 use lib.Pow.{pow-add, pow-pos, pow-mono, shl-lt, shl-exact}
-use Rattle.quantiser_levels.specs.Samples.{tie, nearest}
-use Rattle.quantiser_levels.specs.Scaling.{Digits, Narrow}
+use Rattle.quantiser_levels.specs.Paper.Samples.{tie, nearestWhole}
+use Rattle.quantiser_levels.specs.Scale.{Digits, Narrow}
 
 -- c times as much, less a tie, is c times as much as what is less a tie, and something below c
 shrink : (x c t : ℕ) → 0 < c → t ≤ 1 → (x * c - t) / c ≡ x - t
@@ -26,8 +26,8 @@ shrink (suc x) c (suc (suc t)) h l = absurd (many t l)
     many t l = omega arith
 
 -- a fraction with both its numbers c times as large
-scale : (n d c : ℕ) → 0 < c → nearest (n * c) (d * c) ≡ nearest n d
-unfolding nearest
+scale : (n d c : ℕ) → 0 < c → nearestWhole (n * c) (d * c) ≡ nearestWhole n d
+unfolding nearestWhole
 scale n d c h =
     ap₂ (λ (x y : ℕ). (x - tie) / y)
     (ap (λ (x : ℕ). x + d * c) (sym (mul-assoc 2 n c)) ∙ sym (add-mul (2 * n) d c)) (sym (mul-assoc 2 d c) ∙ mul-comm (2 * d) c)
@@ -35,8 +35,8 @@ scale n d c h =
     ∙ ap (λ (x : ℕ). x / (2 * d)) (shrink (2 * n + d) c tie h (lit≤ tt))
 
 -- a fraction of at least the top
-large : (n d : ℕ) {top : ℕ} → 0 < d → top * d ≤ n → top ≤ nearest n d
-unfolding nearest
+large : (n d : ℕ) {top : ℕ} → 0 < d → top * d ≤ n → top ≤ nearestWhole n d
+unfolding nearestWhole
 large n d {top} h l =
     let e : top * (2 * d) ≡ 2 * (top * d) = mul-left-comm top 2 d in
     let p : 0 < 2 * d = omega arith in
@@ -44,8 +44,8 @@ large n d {top} h l =
     le-div-iff-mul-le p .1 q
 
 -- a fraction below a half
-small : (n d : ℕ) → 2 * n < d → nearest n d ≡ 0
-unfolding nearest
+small : (n d : ℕ) → 2 * n < d → nearestWhole n d ≡ 0
+unfolding nearestWhole
 small n d h =
     let l : 2 * n + d - tie < 2 * d = omega arith in
     div-eq-of-lt l
@@ -55,15 +55,15 @@ small n d h =
 split : (j i : ℕ) → i ≤ j → j ≡ i + (j - i)
 split j i h = omega arith
 
-up : (g s t : ℕ) {i j : ℕ} → i ≤ j → nearest (g * (s * 2 ^ j)) (t * 2 ^ i) ≡ nearest (g * s * 2 ^ (j - i)) t
+up : (g s t : ℕ) {i j : ℕ} → i ≤ j → nearestWhole (g * (s * 2 ^ j)) (t * 2 ^ i) ≡ nearestWhole (g * s * 2 ^ (j - i)) t
 up g s t {i} {j} h =
-    ap (λ (n : ℕ). nearest n (t * 2 ^ i))
+    ap (λ (n : ℕ). nearestWhole n (t * 2 ^ i))
     (ap (λ (k : ℕ). g * (s * 2 ^ k)) (split j i h) ∙ ap (λ (k : ℕ). g * (s * k)) (pow-add 2 i (j - i)) ∙ simp (mul-assoc, mul-comm))
     ∙ scale (g * s * 2 ^ (j - i)) t (2 ^ i) (pow-pos i)
 
-down : (g s t : ℕ) {i j : ℕ} → j ≤ i → nearest (g * (s * 2 ^ j)) (t * 2 ^ i) ≡ nearest (g * s) (t * 2 ^ (i - j))
+down : (g s t : ℕ) {i j : ℕ} → j ≤ i → nearestWhole (g * (s * 2 ^ j)) (t * 2 ^ i) ≡ nearestWhole (g * s) (t * 2 ^ (i - j))
 down g s t {i} {j} h =
-    ap₂ nearest (sym (mul-assoc g s (2 ^ j)))
+    ap₂ nearestWhole (sym (mul-assoc g s (2 ^ j)))
     (ap (λ (k : ℕ). t * 2 ^ k) (split i j h) ∙ ap (λ (k : ℕ). t * k) (pow-add 2 j (i - j)) ∙ simp (mul-assoc, mul-comm))
     ∙ scale (g * s) (t * 2 ^ (i - j)) (2 ^ j) (pow-pos j)
 
@@ -74,49 +74,49 @@ module _ {g s t top j : ℕ} (w : Narrow g top t) (d : Digits s j) where
       omega (arith, d .below)
 
   -- past 26 places upward the sample is larger than the largest level
-  all-of-top : (k : ℕ) → 0 < j → 26 < k → min top (nearest (g * s * 2 ^ k) t) ≡ top
+  all-of-top : (k : ℕ) → 0 < j → 26 < k → min top (nearestWhole (g * s * 2 ^ k) t) ≡ top
   all-of-top k p h =
       let n : 2 ^ 50 ≤ g * s * 2 ^ k = mul-le-mul (mul-le-mul (w .some) (d .lead p)) (pow-mono h) in
       let f : top ≤ 2 ^ 11 = omega (arith, w .most) in
       let m : top * t ≤ 2 ^ 11 * 2 ^ 24 = mul-le-mul f (le-of-lt (w .to)) in
-      let l : top ≤ nearest (g * s * 2 ^ k) t = large (g * s * 2 ^ k) t (omega (arith, w .from)) (omega arith) in
+      let l : top ≤ nearestWhole (g * s * 2 ^ k) t = large (g * s * 2 ^ k) t (omega (arith, w .from)) (omega arith) in
       omega arith
 
   -- past 26 places downward it is less than half a step
-  none-of-top : (k : ℕ) → 26 < k → min top (nearest (g * s) (t * 2 ^ k)) ≡ 0
+  none-of-top : (k : ℕ) → 26 < k → min top (nearestWhole (g * s) (t * 2 ^ k)) ≡ 0
   none-of-top k h =
       let n : g * s < 2 ^ 35 = product in
       let m : 2 ^ 50 ≤ t * 2 ^ k = mul-le-mul (w .from) (pow-mono h) in
-      let z : nearest (g * s) (t * 2 ^ k) ≡ 0 = small (g * s) (t * 2 ^ k) (omega arith) in
+      let z : nearestWhole (g * s) (t * 2 ^ k) ≡ 0 = small (g * s) (t * 2 ^ k) (omega arith) in
       omega arith
 
   -- so more than 27 places give the same as 27
-  rise : (k : ℕ) → 0 < j → min top (nearest (g * s * 2 ^ k) t) ≡ min top (nearest (g * s * 2 ^ min 27 k) t)
+  rise : (k : ℕ) → 0 < j → min top (nearestWhole (g * s * 2 ^ k) t) ≡ min top (nearestWhole (g * s * 2 ^ min 27 k) t)
   rise k p =
       elim (decLt 26 k) [
         | yes h ↦ all-of-top k p h ∙ sym (all-of-top (min 27 k) p (omega arith))
-        | no h ↦ ap (λ (x : ℕ). min top (nearest (g * s * 2 ^ x) t)) (omega arith)
+        | no h ↦ ap (λ (x : ℕ). min top (nearestWhole (g * s * 2 ^ x) t)) (omega arith)
       ]
 
-  fall : (k : ℕ) → min top (nearest (g * s) (t * 2 ^ k)) ≡ min top (nearest (g * s) (t * 2 ^ min 27 k))
+  fall : (k : ℕ) → min top (nearestWhole (g * s) (t * 2 ^ k)) ≡ min top (nearestWhole (g * s) (t * 2 ^ min 27 k))
   fall k =
       elim (decLt 26 k) [
         | yes h ↦ none-of-top k h ∙ sym (none-of-top (min 27 k) (omega arith))
-        | no h ↦ ap (λ (x : ℕ). min top (nearest (g * s) (t * 2 ^ x))) (omega arith)
+        | no h ↦ ap (λ (x : ℕ). min top (nearestWhole (g * s) (t * 2 ^ x))) (omega arith)
       ]
 
   -- the code's numbers
-  pub shifted : (i : ℕ) → min top (nearest (g * (s * 2 ^ j)) (t * 2 ^ i)) ≡ min top (nearest (g * s * 2 ^ min 27 (j - i)) (t * 2 ^ min 27 (i - j)))
+  pub shifted : (i : ℕ) → min top (nearestWhole (g * (s * 2 ^ j)) (t * 2 ^ i)) ≡ min top (nearestWhole (g * s * 2 ^ min 27 (j - i)) (t * 2 ^ min 27 (i - j)))
   shifted i =
       elim (decLt i j) [
         | yes h ↦
             let z : min 27 (i - j) ≡ 0 = omega arith in
             ap (min top) (up g s t (le-of-lt h)) ∙ rise (j - i) (omega arith)
-            ∙ ap (λ (x : ℕ). min top (nearest (g * s * 2 ^ min 27 (j - i)) x)) (sym (mul-one t) ∙ ap (λ (x : ℕ). t * 2 ^ x) (sym z))
+            ∙ ap (λ (x : ℕ). min top (nearestWhole (g * s * 2 ^ min 27 (j - i)) x)) (sym (mul-one t) ∙ ap (λ (x : ℕ). t * 2 ^ x) (sym z))
         | no h ↦
             let z : min 27 (j - i) ≡ 0 = omega arith in
             ap (min top) (down g s t (omega arith)) ∙ fall (i - j)
-            ∙ ap (λ (x : ℕ). min top (nearest x (t * 2 ^ min 27 (i - j)))) (sym (mul-one (g * s)) ∙ ap (λ (x : ℕ). g * s * 2 ^ x) (sym z))
+            ∙ ap (λ (x : ℕ). min top (nearestWhole x (t * 2 ^ min 27 (i - j)))) (sym (mul-one (g * s)) ∙ ap (λ (x : ℕ). g * s * 2 ^ x) (sym z))
       ]
 
   -- within 27 places a shift loses nothing

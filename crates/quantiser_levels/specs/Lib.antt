@@ -1,3 +1,3 @@
 -- What the contracts of `quantiser_levels` cite.
-pub mod Samples
-pub mod Scaling
+pub mod Paper
+pub mod Scale

@@ -4,8 +4,8 @@ ghost use mathlib.Core.Path.{_≡_};
 ghost use Prim.Native.Nat.{min, _-_, _*_, _^_, _<_, _≤_};
 ghost use lib.Dec.{T};
 ghost use lib.Ieee.Scale.{finite};
-ghost use Rattle.quantiser_levels.specs.Samples.{mostBits, largest, nearest, signed, hardOf};
-ghost use Rattle.quantiser_levels.specs.Scaling.{levelBy, Digits, Apart, Narrow};
+ghost use Rattle.quantiser_levels.specs.Paper.Samples.{mostBits, largest, nearestWhole, signed, hardOf};
+ghost use Rattle.quantiser_levels.specs.Scale.{levelBy, Digits, Apart, Narrow};
 
 // A stored level.
 pub type Cell = i8;
@@ -70,7 +70,7 @@ pub fn take_apart(x: f32) -> Parts
 // n / d to the nearest whole number, at most `top`.
 fn capped(n: u64, d: u64, top: u64) -> u64
     requires { ⌜ (n < 2 ^ 62) × (0 < d) × (d < 2 ^ 62) ⌝ }
-    ensures { λ r. ⌜ r ≡ min top (nearest n d) ⌝ }
+    ensures { λ r. ⌜ r ≡ min top (nearestWhole n d) ⌝ }
 {
     let q = (2 * n + d - TIE) / (2 * d);
     if q < top { q } else { top }
@@ -92,7 +92,7 @@ fn places(a: u64, b: u64) -> u64
 // so that 27 places give the same as more, and the numbers fit 64 bits.
 fn magnitude_of(s: Scale, y: Parts) -> u64
     requires { ⌜ (Narrow (s .gain) (s .top) (s .sig)) × (Digits (y .sig) (y .shift)) ⌝ }
-    ensures { λ r. ⌜ r ≡ min (s .top) (nearest (s .gain * (y .sig * 2 ^ y .shift)) (s .sig * 2 ^ s .shift)) ⌝ }
+    ensures { λ r. ⌜ r ≡ min (s .top) (nearestWhole (s .gain * (y .sig * 2 ^ y .shift)) (s .sig * 2 ^ s .shift)) ⌝ }
 {
     let gain = s.gain;
     let top = s.top;

@@ -19,9 +19,9 @@ use lib.Ieee.Scale.{finite}
 use lib.ListN.{length, getD}
 use borrow.Author.Tests.{leb-true, le-leb, not-false}
 use Rattle.counting.proofs.Searches.{and-left, and-right, first-clear}
-use Rattle.quantiser_levels.specs.Samples.{Choice, units, negative, mostBits, rangesFit, settingFits, largest, gain, nearest}
-use Rattle.quantiser_levels.specs.Samples.{magnitude, signed, levelOf, hardOf, hardBit, notFinite, firstNotFinite}
-use Rattle.quantiser_settings.specs.Ranges.{InRange}
+use Rattle.quantiser_levels.specs.Paper.Samples.{Setting, unitsOf, negative, mostBits, rangesFit, settingFits, largest, gain, nearestWhole}
+use Rattle.quantiser_levels.specs.Paper.Samples.{magnitude, signed, levelOf, hardOf, hardBit, notFinite, firstNotFinite}
+use Rattle.quantiser_settings.specs.Paper.Ranges.{InRange}
 
 -- ---- refusal 6
 
@@ -36,7 +36,7 @@ ranges-read b limit e =
 pub read-ranges : (b limit : ℕ) → 2 ≤ b → b ≤ mostBits → limit ≤ 255 → rangesFit b limit ≡ true
 read-ranges b limit least most few = simp (le-leb _ _ least, le-leb _ _ most, le-leb _ _ few)
 
-pub fits-reads : (S : Choice) → settingFits S ≡ true → InRange S
+pub fits-reads : (S : Setting) → settingFits S ≡ true → InRange S
 unfolding settingFits
 fits-reads S e =
     let r = ranges-read (S .bits) (S .limit) (and-left (rangesFit (S .bits) (S .limit)) _ e) in
@@ -49,7 +49,7 @@ fits-reads S e =
       step = and-right (leb (S .kind) 1) _ e₁;
     }
 
-pub reads-fits : (S : Choice) → InRange S → settingFits S ≡ true
+pub reads-fits : (S : Setting) → InRange S → settingFits S ≡ true
 unfolding settingFits
 reads-fits S r =
     simp (read-ranges (S .bits) (S .limit) (r .least) (r .most) (r .limit), le-leb _ _ (r .kind), r .step)
@@ -72,10 +72,10 @@ signed-abs true zero = refl
 signed-abs true (suc k) = refl
 signed-abs false k = refl
 
-pub level-bound : (S : Choice) (x : Float) → natAbs (levelOf S x) ≤ largest (S .bits)
+pub level-bound : (S : Setting) (x : Float) → natAbs (levelOf S x) ≤ largest (S .bits)
 unfolding levelOf magnitude
 level-bound S x =
-    omega (arith, signed-abs (negative x) (min (largest (S .bits)) (nearest (gain S * units x) (units (S .step)))))
+    omega (arith, signed-abs (negative x) (min (largest (S .bits)) (nearestWhole (gain S * unitsOf x) (unitsOf (S .step)))))
 
 -- ---- finite samples
 

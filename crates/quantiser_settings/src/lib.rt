@@ -5,9 +5,10 @@ use quantiser_levels::largest_of;
 use quantiser_levels::take_apart;
 ghost use mathlib.Core.Path.{_≡_};
 ghost use mathlib.Core.Bool.{true};
-ghost use Rattle.quantiser_levels.specs.Samples.{rangesFit, stepFits, settingFits};
-ghost use Rattle.quantiser_levels.specs.Scaling.{Scaled};
-ghost use Rattle.quantiser_settings.specs.Settings.{choiceOf, stepOf, gainBy};
+ghost use Rattle.quantiser_levels.specs.Paper.Samples.{rangesFit, stepFits, settingFits};
+ghost use Rattle.quantiser_levels.specs.Scale.{Scaled};
+ghost use Rattle.quantiser_settings.specs.Paper.Settings.{settingOf, floatOf};
+ghost use Rattle.quantiser_settings.specs.Gain.{gainBy};
 
 // The most bits that a level may have.
 pub const MOST_BITS: u16 = 8;
@@ -47,7 +48,7 @@ fn step_fits(d: f32) -> bool
 
 // The float of the step, whichever its kind.
 fn step_of(step: Step) -> f32
-    ensures { λ r. ⌜ r ≡ stepOf step ⌝ }
+    ensures { λ r. ⌜ r ≡ floatOf step ⌝ }
 {
     match step {
         Step::Level(d) => d,
@@ -57,7 +58,7 @@ fn step_of(step: Step) -> f32
 
 // Whether the setting is in range: refusal 6 where it is not.
 pub fn setting_fits(s: Setting) -> bool
-    ensures { λ r. ⌜ r ≡ settingFits (choiceOf s) ⌝ }
+    ensures { λ r. ⌜ r ≡ settingFits (settingOf s) ⌝ }
 {
     let bits = s.bits;
     let limit = s.limit;
@@ -80,8 +81,8 @@ fn gain_by(step: Step, top: u64) -> u64
 
 // The scale of a setting, taken once for all its samples. Only this repository's crates call it, after asking refusal 6.
 pub fn scale_of(setting: Setting) -> Scale
-    requires { ⌜ settingFits (choiceOf setting) ≡ true ⌝ }
-    ensures { λ r. ⌜ Scaled (choiceOf setting) (r .gain) (r .top) (r .sig) (r .shift) ⌝ }
+    requires { ⌜ settingFits (settingOf setting) ≡ true ⌝ }
+    ensures { λ r. ⌜ Scaled (settingOf setting) (r .gain) (r .top) (r .sig) (r .shift) ⌝ }
 {
     let bits = setting.bits;
     let step = setting.step;

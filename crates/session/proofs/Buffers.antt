@@ -6,10 +6,10 @@ use Prim.Native.Nat.{ℕ, _-_, _/_, _%_, _^_, _<_}
 use native.Mathlib.Omega.{arith}
 use lib.IntN.{ℤ}
 use lib.ListN.{length, getD}
-use Rattle.counting.specs.Lists.{listed, over}
-use Rattle.counting.proofs.Writing.{length-listed, getD-listed, getD-over-new}
-use Rattle.packed_word.specs.Packed.{bitAt, pack, spareSet}
-use Rattle.packed_word.proofs.Packing.{length-pack, bitAt-pack, spare-pack, clear-spare}
+use Rattle.counting.specs.Paper.Lists.{listed, over}
+use Rattle.counting.proofs.Writes.{length-listed, getD-listed, getD-over-new}
+use Rattle.packed_word.specs.Paper.Packed.{bitAt, pack, spareSet}
+use Rattle.packed_word.proofs.Packed.{length-pack, bitAt-pack, spare-pack, clear-spare}
 
 -- a bit of a byte that is written
 bit-over : (new old : List ℕ) (j : ℕ) → j / 8 < length new → bitAt (over new old) j ≡ bitAt new j

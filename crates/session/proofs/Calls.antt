@@ -7,21 +7,21 @@ use borrow.Author.Tests.{eqb-true, eqb-false}
 use lib.Dec.{eqb}
 use lib.Ieee.{Float}
 use Rattle.counting.proofs.Searches.{cases}
-use Rattle.answers.specs.Paper.{accepted}
-use Rattle.packed_word.specs.Packed.{bitAt}
-use Rattle.matrix.specs.Code.{Matrix, failing}
-use Rattle.matrix.specs.Reading.{Rows}
+use Rattle.answers.specs.Paper.Answers.{accepted}
+use Rattle.packed_word.specs.Paper.Packed.{bitAt}
+use Rattle.matrix.specs.Paper.Code.{Matrix, failing}
+use Rattle.matrix.specs.Paper.PlainCheck.{Rows}
 use Rattle.matrix.proofs.Rows.{failing-cong}
-use Rattle.quantiser_levels.specs.Samples.{Choice, largest}
-use Rattle.iterative_rounds.specs.Rounds.{State}
-use Rattle.iterative_core.specs.Iterative.{startOf}
-use Rattle.session_record.specs.Record.{Course, Record, working, decoded, failed, courseIn, stateAfter}
-use Rattle.session_asking.specs.Asked.{Held, lent, openVerdict, stepVerdict}
-use Rattle.session_asking.specs.Reading.{Steppable}
-use Rattle.session.specs.Steps.{courseFor, heldAt, openedLeft, openOf, stateIn, steppedState, steppedLeft, stepOf}
-use Rattle.session.specs.Stepping.{Means, Ran, opened, stepped, step-refused, open-refused, Within}
-use Rattle.session_asking.proofs.Asking.{accepted-open, accepted-step}
-use Rattle.session.proofs.Leaving.{refused-open-keeps, refused-step-keeps, accepted-opens, accepted-steps, start-bits, round-bits}
+use Rattle.quantiser_levels.specs.Paper.Samples.{Setting, largest}
+use Rattle.iterative_rounds.specs.Paper.Rounds.{State}
+use Rattle.iterative_core.specs.Paper.Iterative.{startOf}
+use Rattle.session_record.specs.Paper.Record.{Course, Record, working, decoded, failed, courseIn, stateAfter}
+use Rattle.session_asking.specs.Paper.Asked.{Held, lent, openVerdict, stepVerdict}
+use Rattle.session_asking.specs.Paper.PlainCalls.{Steppable}
+use Rattle.session.specs.Paper.Steps.{courseFor, heldAt, openedLeft, openOf, stateIn, steppedState, steppedLeft, stepOf}
+use Rattle.session.specs.Paper.Stepping.{Means, Ran, opened, stepped, step-refused, open-refused, Within}
+use Rattle.session_asking.proofs.Questions.{accepted-open, accepted-step}
+use Rattle.session.proofs.Kept.{refused-open-keeps, refused-step-keeps, accepted-opens, accepted-steps, start-bits, round-bits}
 use Rattle.session.proofs.Buffers.{bits-back}
 
 -- ---- what the state says
@@ -57,7 +57,7 @@ held-means H r course k s h b l =
       if-failed = λ e. let p = after-failed (failing H (s .z)) course k e in (p .0, omega (arith, p .1));
     }
 
-pub open-means : (H : Matrix) (S : Choice) (xs : List Float) (h : Held) → openVerdict H S xs h ≡ accepted
+pub open-means : (H : Matrix) (S : Setting) (xs : List Float) (h : Held) → openVerdict H S xs h ≡ accepted
     → Means H (openOf H S xs h .held .rec) (bitAt (openOf H S xs h .held .word))
 open-means H S xs h e =
     rw (accepted-opens H S xs h e)

@@ -1,6 +1,6 @@
-pub mod Leaving
-pub mod Answering
 pub mod Buffers
 pub mod Calls
 pub mod Stepping
 pub mod SteppingRule
+pub mod Answers
+pub mod Kept

@@ -4,16 +4,16 @@ use mathlib.Core.List.{List}
 use Prim.Native.Nat.{ℕ}
 use native.Mathlib.Omega.{arith}
 use lib.Ieee.{Float}
-use Rattle.answers.specs.Paper.{report}
-use Rattle.matrix.specs.Code.{Matrix}
-use Rattle.quantiser_levels.specs.Samples.{Choice}
-use Rattle.iterative_rule.specs.Claims.{wrongBits}
+use Rattle.answers.specs.Paper.Answers.{report}
+use Rattle.matrix.specs.Paper.Code.{Matrix}
+use Rattle.quantiser_levels.specs.Paper.Samples.{Setting}
+use Rattle.iterative_rule.specs.Paper.Claims.{wrongBits}
 use Rattle.iterative_rule.proofs.FlippingRule.{iterative-rule}
-use Rattle.session_asking.specs.Asked.{Held, openVerdict}
-use Rattle.session.specs.SteppingRule.{SteppingRule}
+use Rattle.session_asking.specs.Paper.Asked.{Held, openVerdict}
+use Rattle.session.specs.Paper.SteppingRule.{SteppingRule}
 use Rattle.session.proofs.Stepping.{stepping-is-whole, steps-rounds}
 
-pub stepping-rule : (H : Matrix) (S : Choice) (xs : List Float) (h : Held) → SteppingRule H S xs h
+pub stepping-rule : (H : Matrix) (S : Setting) (xs : List Float) (h : Held) → SteppingRule H S xs h
 unfolding openVerdict
 stepping-rule H S xs h c e near time =
     let r = iterative-rule H S xs (h .word) (h .levels) c e near time in

@@ -1,5 +1,3 @@
 -- What the contracts of `session_opening`, `session_round` and the crates above them cite, and the theorems on stepping.
-pub mod Steps
-pub mod Leaving
-pub mod Stepping
-pub mod SteppingRule
+pub mod Paper
+pub mod RoundParts

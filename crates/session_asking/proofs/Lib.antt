@@ -1,3 +1,3 @@
-pub mod Asking
 pub mod Magnitudes
 pub mod Parts
+pub mod Questions

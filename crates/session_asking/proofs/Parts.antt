@@ -14,14 +14,14 @@ use lib.Ieee.{Float}
 use lib.ListN.{length, take}
 use lib.Seq.{getD-take}
 use Rattle.counting.proofs.Searches.{any-cong}
-use Rattle.answers.specs.Paper.{Verdict, accepted, refused, refuseWhen, andThen}
-use Rattle.packed_word.specs.Packed.{bitAt, bytesFor, spareSet}
-use Rattle.matrix.specs.Code.{Matrix}
-use Rattle.matrix.specs.Check.{checkOf}
-use Rattle.syndrome.specs.Failing.{wordVerdict}
-use Rattle.quantiser_levels.specs.Samples.{Choice}
-use Rattle.iterative_core.specs.Iterative.{samplesVerdict, iterativeVerdict}
-use Rattle.session_asking.specs.Asked.{Held, unusable, ended, otherSizes, beyond, stepVerdict}
+use Rattle.answers.specs.Paper.Answers.{Verdict, accepted, refused, refuseWhen, andThen}
+use Rattle.packed_word.specs.Paper.Packed.{bitAt, bytesFor, spareSet}
+use Rattle.matrix.specs.Paper.Code.{Matrix}
+use Rattle.matrix.specs.Paper.Check.{checkOf}
+use Rattle.syndrome.specs.Paper.Failing.{wordVerdict}
+use Rattle.quantiser_levels.specs.Paper.Samples.{Setting}
+use Rattle.iterative_core.specs.Paper.Iterative.{samplesVerdict, iterativeVerdict}
+use Rattle.session_asking.specs.Paper.Asked.{Held, unusable, ended, otherSizes, beyond, stepVerdict}
 use Rattle.session_asking.specs.Parts.{knownVerdict, lentVerdict}
 
 -- ---- the spare places of a word, by its bytes alone
@@ -71,7 +71,7 @@ module _ (H : Matrix) (w : List ℕ) (h : Held) where
 
 -- ---- what opening asks
 
-module _ (H : Matrix) (S : Choice) (xs : List Float) (bytes room : ℕ) where
+module _ (H : Matrix) (S : Setting) (xs : List Float) (bytes room : ℕ) where
   pub says-open-matrix : (k x : ℕ) → checkOf H ≡ refused k x → refused k x ≡ iterativeVerdict H S xs bytes room
   unfolding iterativeVerdict
   says-open-matrix k x e = rw e

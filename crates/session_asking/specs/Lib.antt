@@ -1,4 +1,3 @@
 -- What the contracts of `session_asking` and of the crates above it cite.
-pub mod Asked
-pub mod Reading
+pub mod Paper
 pub mod Parts

@@ -1,5 +1,4 @@
 -- A session's record, word and levels in document 01's terms, and the parts in which opening and a step ask.
---   heldOf s word levels    == a session, a word and levels, as a call is lent them
 --   outOfRange b limit k    == what refusal 20 asks of a working record
 --   far L R j               == the level at place j lies beyond ±L
 --   beyondIn n L ..         == refusal 23 of a word and levels
@@ -11,20 +10,15 @@ use mathlib.Core.List.{List}
 use lib.Dec.{leb, ltb}
 use lib.IntN.{ℤ, pos, natAbs}
 use lib.ListN.{length, getD}
-use Rattle.counting.specs.Search.{any}
-use Rattle.answers.specs.Paper.{Verdict, accepted, refuseWhen, andThen}
-use Rattle.packed_word.specs.Packed.{spareSet}
-use Rattle.matrix.specs.Code.{Matrix}
-use Rattle.matrix.specs.Check.{checkOf}
-use Rattle.quantiser_levels.specs.Samples.{rangesFit}
-use Rattle.syndrome.specs.Failing.{wordVerdict}
-use Rattle.session_record.specs.Record.{Record}
-use Rattle.session_record.specs.Sessions.{recordOf}
-use Rattle.session_asking.specs.Asked.{Held, lent, unusable, ended, otherSizes, beyond}
-use Rattle.session_record.specs.declared.Session.{Session}
-
-abbrev pub heldOf : Session → List ℕ → List ℤ → Held
-heldOf s word levels = lent (recordOf s) word levels
+use Rattle.counting.specs.Paper.Search.{anyBelow}
+use Rattle.answers.specs.Paper.Answers.{Verdict, accepted, refuseWhen, andThen}
+use Rattle.packed_word.specs.Paper.Packed.{spareSet}
+use Rattle.matrix.specs.Paper.Code.{Matrix}
+use Rattle.matrix.specs.Paper.Check.{checkOf}
+use Rattle.quantiser_levels.specs.Paper.Samples.{rangesFit}
+use Rattle.syndrome.specs.Paper.Failing.{wordVerdict}
+use Rattle.session_record.specs.Paper.Record.{Record}
+use Rattle.session_asking.specs.Paper.Asked.{Held, unusable, ended, otherSizes, beyond}
 
 -- "b or the round limit out of range or k not below the round limit"
 abbrev pub outOfRange : ℕ → ℕ → ℕ → Bool
@@ -36,7 +30,7 @@ far L R j = ltb L (natAbs (getD R j (pos 0)))
 
 -- refusal 23 of a word and levels
 abbrev pub beyondIn : ℕ → ℕ → List ℕ → List ℤ → Bool
-beyondIn n L word levels = spareSet n word || any (far L levels) n
+beyondIn n L word levels = spareSet n word || anyBelow (far L levels) n
 
 -- 20, 21, 1 to 5, 22: what a step asks of its record and its matrix
 unfoldable pub knownVerdict : Matrix → Record → Verdict

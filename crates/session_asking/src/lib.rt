@@ -12,15 +12,16 @@ ghost use Prim.Native.Nat.{_≤_};
 ghost use mathlib.Core.List.{[]};
 ghost use lib.IntN.{natAbs};
 ghost use lib.ListN.{length};
-ghost use Rattle.counting.specs.Search.{any};
-ghost use Rattle.answers.specs.Answers.{verdictOf};
-ghost use Rattle.packed_word.specs.Packed.{bytesFor};
-ghost use Rattle.matrix.specs.Reading.{Accepted};
-ghost use Rattle.matrix.specs.Shapes.{matrixOf};
-ghost use Rattle.session_record.specs.Sessions.{recordOf};
-ghost use Rattle.session_asking.specs.Asked.{unusable, ended, otherSizes, stepVerdict};
-ghost use Rattle.session_asking.specs.Reading.{Usable};
-ghost use Rattle.session_asking.specs.Parts.{heldOf, outOfRange, far, beyondIn, knownVerdict, lentVerdict};
+ghost use Rattle.counting.specs.Paper.Search.{anyBelow};
+ghost use Rattle.answers.specs.Paper.Enums.{verdictOf};
+ghost use Rattle.packed_word.specs.Paper.Packed.{bytesFor};
+ghost use Rattle.matrix.specs.Paper.PlainCheck.{Accepted};
+ghost use Rattle.matrix.specs.Paper.Shapes.{matrixOf};
+ghost use Rattle.session_record.specs.Paper.Sessions.{recordOf};
+ghost use Rattle.session_asking.specs.Paper.Asked.{unusable, ended, otherSizes, stepVerdict};
+ghost use Rattle.session_asking.specs.Paper.PlainCalls.{Usable};
+ghost use Rattle.session_asking.specs.Parts.{outOfRange, far, beyondIn, knownVerdict, lentVerdict};
+ghost use Rattle.session_asking.specs.Paper.Asked.{heldOf};
 
 // Whether b, the round limit or k of a working record is out of range.
 fn out_of_range(bits: u16, limit: u16, k: u16) -> bool
@@ -92,7 +93,7 @@ fn magnitude(r: i8) -> u8
 // Whether one of the first n levels lies beyond ±L.
 fn any_far(levels: &[i8], n: usize, middle: u8) -> bool
     requires { ⌜ n ≤ length (now levels) ⌝ }
-    ensures { λ r. ⌜ r ≡ any (far middle (now (levels .entry))) n ⌝ }
+    ensures { λ r. ⌜ r ≡ anyBelow (far middle (now (levels .entry))) n ⌝ }
 {
     let mut j = 0;
     while j < n {

@@ -5,11 +5,11 @@ use matrix_check::Shape;
 use quantiser::Setting;
 use session_record::Session;
 use session_record::Turn;
-ghost use Rattle.matrix.specs.Shapes.{matrixOf};
-ghost use Rattle.quantiser_settings.specs.Settings.{choiceOf};
-ghost use Rattle.session_asking.specs.Parts.{heldOf};
-ghost use Rattle.session.specs.Steps.{openOf};
-ghost use Rattle.session.specs.Leaving.{Leaves};
+ghost use Rattle.matrix.specs.Paper.Shapes.{matrixOf};
+ghost use Rattle.quantiser_settings.specs.Paper.Settings.{settingOf};
+ghost use Rattle.session_asking.specs.Paper.Asked.{heldOf};
+ghost use Rattle.session.specs.Paper.Steps.{openOf};
+ghost use Rattle.session.specs.Paper.Call.{Leaves};
 
 // Opens a session on the caller's own record, which a refused opening leaves.
 pub fn open(
@@ -21,7 +21,7 @@ pub fn open(
     word: &mut [u8],
     levels: &mut [i8],
 ) -> Answer
-    ensures { λ r. ⌜ Leaves (openOf (matrixOf shape (now (list .entry))) (choiceOf setting) (now (samples .entry)) (heldOf (now (session .entry)) (now (word .entry)) (now (levels .entry)))) r (now (session .exit)) (now (word .exit)) (now (levels .exit)) ⌝ }
+    ensures { λ r. ⌜ Leaves (openOf (matrixOf shape (now (list .entry))) (settingOf setting) (now (samples .entry)) (heldOf (now (session .entry)) (now (word .entry)) (now (levels .entry)))) r (now (session .exit)) (now (word .exit)) (now (levels .exit)) ⌝ }
 {
     let opened = session_opening::open_value(*session, shape, list, setting, samples, word, levels);
     *session = opened.session;
@@ -38,7 +38,7 @@ pub fn open_copy(
     word: &mut [u8],
     levels: &mut [i8],
 ) -> Turn
-    ensures { λ r. ⌜ Leaves (openOf (matrixOf shape (now (list .entry))) (choiceOf setting) (now (samples .entry)) (heldOf session (now (word .entry)) (now (levels .entry)))) (r .answer) (r .session) (now (word .exit)) (now (levels .exit)) ⌝ }
+    ensures { λ r. ⌜ Leaves (openOf (matrixOf shape (now (list .entry))) (settingOf setting) (now (samples .entry)) (heldOf session (now (word .entry)) (now (levels .entry)))) (r .answer) (r .session) (now (word .exit)) (now (levels .exit)) ⌝ }
 {
     let mut opened = session;
     let answer = open(&mut opened, shape, list, setting, samples, word, levels);

@@ -7,15 +7,16 @@ use session_record::Course;
 use session_record::Session;
 use session_record::Turn;
 ghost use mathlib.Core.Path.{_≡_};
-ghost use Rattle.answers.specs.Answers.{verdictOf};
-ghost use Rattle.matrix.specs.Shapes.{matrixOf};
-ghost use Rattle.quantiser_settings.specs.Settings.{choiceOf};
-ghost use Rattle.iterative_core.specs.Iterative.{iterativeVerdict};
-ghost use Rattle.session_asking.specs.Asked.{lent};
-ghost use Rattle.session_asking.specs.Reading.{Openable};
-ghost use Rattle.session_asking.specs.Parts.{heldOf};
-ghost use Rattle.session.specs.Steps.{openedLeft, openOf};
-ghost use Rattle.session.specs.Leaving.{blank, Leaves};
+ghost use Rattle.answers.specs.Paper.Enums.{verdictOf};
+ghost use Rattle.matrix.specs.Paper.Shapes.{matrixOf};
+ghost use Rattle.quantiser_settings.specs.Paper.Settings.{settingOf};
+ghost use Rattle.iterative_core.specs.Paper.Iterative.{iterativeVerdict};
+ghost use Rattle.session_asking.specs.Paper.Asked.{lent};
+ghost use Rattle.session_asking.specs.Paper.PlainCalls.{Openable};
+ghost use Rattle.session_asking.specs.Paper.Asked.{heldOf};
+ghost use Rattle.session.specs.Paper.Steps.{openedLeft, openOf};
+ghost use Rattle.session.specs.RoundParts.{blank};
+ghost use Rattle.session.specs.Paper.Call.{Leaves};
 
 // What opening asks, in its order: 1 to 8.
 fn ask_open(
@@ -26,7 +27,7 @@ fn ask_open(
     bytes: usize,
     room: usize,
 ) -> Checked
-    ensures { λ r. ⌜ verdictOf r ≡ iterativeVerdict (matrixOf shape (now (list .entry))) (choiceOf setting) (now (samples .entry)) bytes room ⌝ }
+    ensures { λ r. ⌜ verdictOf r ≡ iterativeVerdict (matrixOf shape (now (list .entry))) (settingOf setting) (now (samples .entry)) bytes room ⌝ }
 {
     let n = shape.n as usize;
     let asked = matrix_check::check(shape, list);
@@ -45,8 +46,8 @@ fn open_accepted(
     word: &mut [u8],
     levels: &mut [i8],
 ) -> Turn
-    requires { ⌜ Openable (matrixOf shape (now list)) (choiceOf setting) (now samples) (lent blank (now word) (now levels)) ⌝ }
-    ensures { λ r. ⌜ Leaves (openedLeft (matrixOf shape (now (list .entry))) (choiceOf setting) (now (samples .entry)) (lent blank (now (word .entry)) (now (levels .entry)))) (r .answer) (r .session) (now (word .exit)) (now (levels .exit)) ⌝ }
+    requires { ⌜ Openable (matrixOf shape (now list)) (settingOf setting) (now samples) (lent blank (now word) (now levels)) ⌝ }
+    ensures { λ r. ⌜ Leaves (openedLeft (matrixOf shape (now (list .entry))) (settingOf setting) (now (samples .entry)) (lent blank (now (word .entry)) (now (levels .entry)))) (r .answer) (r .session) (now (word .exit)) (now (levels .exit)) ⌝ }
 {
     let n = shape.n as usize;
     let course = Course {
@@ -70,7 +71,7 @@ pub fn open_value(
     word: &mut [u8],
     levels: &mut [i8],
 ) -> Turn
-    ensures { λ r. ⌜ Leaves (openOf (matrixOf shape (now (list .entry))) (choiceOf setting) (now (samples .entry)) (heldOf session (now (word .entry)) (now (levels .entry)))) (r .answer) (r .session) (now (word .exit)) (now (levels .exit)) ⌝ }
+    ensures { λ r. ⌜ Leaves (openOf (matrixOf shape (now (list .entry))) (settingOf setting) (now (samples .entry)) (heldOf session (now (word .entry)) (now (levels .entry)))) (r .answer) (r .session) (now (word .exit)) (now (levels .exit)) ⌝ }
 {
     let asked = ask_open(shape, list, setting, samples, word.len(), levels.len());
     match asked {

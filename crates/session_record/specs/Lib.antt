@@ -1,3 +1,2 @@
 -- What the contracts of `session_record` cite.
-pub mod Record
-pub mod Sessions
+pub mod Paper

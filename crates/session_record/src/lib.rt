@@ -7,11 +7,11 @@ use answers::Report;
 use matrix_check::Shape;
 ghost use mathlib.Core.Path.{_≡_};
 ghost use mathlib.Core.List.{[]};
-ghost use Rattle.answers.specs.Paper.{refusal, report};
-ghost use Rattle.answers.specs.Answers.{numberOf, placeOf, outcomeOf, saidOf};
-ghost use Rattle.matrix.specs.Shapes.{matrixOf};
-ghost use Rattle.session_record.specs.Record.{recordFor, stateAfter, outcomeIn};
-ghost use Rattle.session_record.specs.Sessions.{stateNumber, knownState, courseOf, recordOf};
+ghost use Rattle.answers.specs.Paper.Answers.{refusal, report};
+ghost use Rattle.answers.specs.Paper.Enums.{numberOf, placeOf, outcomeOf, saidOf};
+ghost use Rattle.matrix.specs.Paper.Shapes.{matrixOf};
+ghost use Rattle.session_record.specs.Paper.Record.{recordFor, stateAfter, outcomeIn};
+ghost use Rattle.session_record.specs.Paper.Sessions.{stateNumber, knownState, courseOf, recordOf};
 
 // How a session stands.
 pub enum State {

@@ -5,11 +5,12 @@ use matrix_check::Shape;
 use session_record::Course;
 use session_record::Session;
 use session_record::Turn;
-ghost use Rattle.matrix.specs.Shapes.{matrixOf};
-ghost use Rattle.session_asking.specs.Reading.{Steppable};
-ghost use Rattle.session_asking.specs.Parts.{heldOf};
-ghost use Rattle.session.specs.Steps.{steppedLeft, stepOf};
-ghost use Rattle.session.specs.Leaving.{Leaves, RoundLent, RoundLeft};
+ghost use Rattle.matrix.specs.Paper.Shapes.{matrixOf};
+ghost use Rattle.session_asking.specs.Paper.PlainCalls.{Steppable};
+ghost use Rattle.session_asking.specs.Paper.Asked.{heldOf};
+ghost use Rattle.session.specs.Paper.Steps.{steppedLeft, stepOf};
+ghost use Rattle.session.specs.RoundParts.{RoundLent, RoundLeft};
+ghost use Rattle.session.specs.Paper.Call.{Leaves};
 
 // Steps 4 to 6 on the word and the levels lent, and how many checks of the new word fail.
 fn round_on(shape: Shape, list: &[u16], middle: u8, word: &mut [u8], levels: &mut [i8]) -> u16
@@ -18,14 +19,14 @@ fn round_on(shape: Shape, list: &[u16], middle: u8, word: &mut [u8], levels: &mu
 {
     let n = shape.n as usize;
     let gamma = shape.gamma;
-    let top = 2 * (middle as u16);
+    let ceiling = 2 * (middle as u16);
     let mut bits = [0u8; 1023];
     let mut kept = [0u8; 1023];
     let mut votes = [0u8; 1023];
     packed_word::unpack(word, n, &mut bits);
     iterative_levels::bias(levels, n, middle, &mut kept);
     majority_votes::tally(shape, list, &bits, &mut votes);
-    iterative_levels::update(&votes, n, gamma, middle, top, &mut bits, &mut kept);
+    iterative_levels::update(&votes, n, gamma, middle, ceiling, &mut bits, &mut kept);
     packed_word::pack_into(&bits, n, word);
     iterative_levels::unbias(&kept, n, middle, levels);
     syndrome::failing_count(shape, list, &bits)

@@ -4,10 +4,10 @@ use answers::Answer;
 use matrix_check::Shape;
 use session_record::Session;
 use session_record::Turn;
-ghost use Rattle.matrix.specs.Shapes.{matrixOf};
-ghost use Rattle.session_asking.specs.Parts.{heldOf};
-ghost use Rattle.session.specs.Steps.{stepOf};
-ghost use Rattle.session.specs.Leaving.{Leaves};
+ghost use Rattle.matrix.specs.Paper.Shapes.{matrixOf};
+ghost use Rattle.session_asking.specs.Paper.Asked.{heldOf};
+ghost use Rattle.session.specs.Paper.Steps.{stepOf};
+ghost use Rattle.session.specs.Paper.Call.{Leaves};
 
 // One step, which brings the caller's own record up to date; a refused step leaves it.
 pub fn step(

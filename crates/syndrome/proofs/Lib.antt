@@ -1,4 +1,4 @@
 pub mod Parity
-pub mod Listing
-pub mod Unpacking
 pub mod Received
+pub mod Lists
+pub mod Unpacked

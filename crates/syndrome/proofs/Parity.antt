@@ -6,13 +6,13 @@ use native.Mathlib.Nat.{mul-le-mul-right, le-of-suc-le-suc}
 use native.Mathlib.Numerals.{add-one}
 use native.Mathlib.Omega.{arith}
 use lib.Bits.{bitXor}
-use Rattle.counting.specs.Sum.{sum}
+use Rattle.counting.specs.Paper.Sum.{sumBelow}
 use Rattle.counting.specs.Places.{at}
 use Rattle.counting.proofs.Sums.{sum-bound}
-use Rattle.matrix.specs.Code.{Matrix, entry, Word, fails}
-use Rattle.matrix.specs.Reading.{Accepted}
+use Rattle.matrix.specs.Paper.Code.{Matrix, entry, Word, fails}
+use Rattle.matrix.specs.Paper.PlainCheck.{Accepted}
 use Rattle.matrix.proofs.Rows.{few-entries}
-use Rattle.syndrome.specs.Places.{Part, ones, Checks, rowFails}
+use Rattle.syndrome.specs.Places.{Part, onesAt, Checks, rowFails}
 
 -- of bits, `^` is the sum's parity
 pub xor-bits : (x b : ℕ) → x < 2 → b < 2 → bitXor x b ≡ (x + b) % 2
@@ -25,9 +25,9 @@ xor-bits (suc zero) (suc (suc b)) h k = absurd (omega arith)
 xor-bits (suc (suc x)) b h k = absurd (omega arith)
 
 -- one bit more in a parity
-pub parity-step : (l : List ℕ) (from k : ℕ) (z : ℕ → ℕ) (x : ℕ) → z (at l (from + k)) < 2 → x ≡ ones l from k z % 2
-    → bitXor x (z (at l (from + k))) ≡ ones l from (k + 1) z % 2
-unfolding ones sum
+pub parity-step : (l : List ℕ) (from k : ℕ) (z : ℕ → ℕ) (x : ℕ) → z (at l (from + k)) < 2 → x ≡ onesAt l from k z % 2
+    → bitXor x (z (at l (from + k))) ≡ onesAt l from (k + 1) z % 2
+unfolding onesAt sumBelow
 parity-step l from k z x h e = rw (add-one k) (xor-bits x (z (at l (from + k))) (omega arith) h ∙ omega arith)
 
 module _ (H : Matrix) (a : Accepted H) where
@@ -54,11 +54,11 @@ module _ (H : Matrix) (a : Accepted H) where
 
 -- the parity of the bits at a row is its check
 pub row-fails : (H : Matrix) (z : ℕ → ℕ) → rowFails (H .list) (H .rho) z ≡ fails H z
-unfolding rowFails ones fails entry
+unfolding rowFails onesAt fails entry
 row-fails H z = refl
 
 -- the parity as it is computed
-pub row-is : (l : List ℕ) (rho : ℕ) (z : ℕ → ℕ) (i x : ℕ) → x ≡ ones l (i * rho) rho z % 2 → x ≡ rowFails l rho z i
+pub row-is : (l : List ℕ) (rho : ℕ) (z : ℕ → ℕ) (i x : ℕ) → x ≡ onesAt l (i * rho) rho z % 2 → x ≡ rowFails l rho z i
 unfolding rowFails
 row-is l rho z i x e = e
 
@@ -67,11 +67,11 @@ unfolding rowFails
 row-bit l rho z i = omega arith
 
 -- one check more in a count, which stays within the rows
-pub count-step : (l : List ℕ) (rho : ℕ) (z : ℕ → ℕ) (i f x : ℕ) → f ≡ sum i (rowFails l rho z) → x ≡ rowFails l rho z i
-    → f + x ≡ sum (i + 1) (rowFails l rho z)
-unfolding sum
+pub count-step : (l : List ℕ) (rho : ℕ) (z : ℕ → ℕ) (i f x : ℕ) → f ≡ sumBelow i (rowFails l rho z) → x ≡ rowFails l rho z i
+    → f + x ≡ sumBelow (i + 1) (rowFails l rho z)
+unfolding sumBelow
 count-step l rho z i f x e r = rw (add-one i) (omega arith)
 
-pub count-most : (l : List ℕ) (rho : ℕ) (z : ℕ → ℕ) (i : ℕ) → sum i (rowFails l rho z) ≤ i
+pub count-most : (l : List ℕ) (rho : ℕ) (z : ℕ → ℕ) (i : ℕ) → sumBelow i (rowFails l rho z) ≤ i
 count-most l rho z i =
     omega (arith, sum-bound i 1 {f = rowFails l rho z} (λ k h. le-of-suc-le-suc (row-bit l rho z k)))

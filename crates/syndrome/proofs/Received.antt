@@ -9,10 +9,10 @@ use mathlib.Core.Bool.{true, false}
 use mathlib.Core.List.{List}
 use Prim.Native.Nat.{ℕ, _≤_}
 use lib.ListN.{length}
-use Rattle.answers.specs.Paper.{Verdict, accepted, refused, refuseWhen, wrongLengths}
+use Rattle.answers.specs.Paper.Answers.{Verdict, accepted, refused, refuseWhen, wrongLengths}
 use Rattle.answers.proofs.Verdicts.{passed, lengths-fit, fit-lengths}
-use Rattle.packed_word.specs.Packed.{bytesFor, spareSet}
-use Rattle.syndrome.specs.Failing.{wordVerdict}
+use Rattle.packed_word.specs.Paper.Packed.{bytesFor, spareSet}
+use Rattle.syndrome.specs.Paper.Failing.{wordVerdict}
 
 module _ (n : ℕ) (w : List ℕ) (bytes room : ℕ) where
   pub word-buffer : wrongLengths (length w) (bytesFor n) bytes (bytesFor n) room n ≡ true → refused 7 0 ≡ wordVerdict n w bytes room

@@ -1,3 +1,3 @@
 -- What the contracts of `syndrome` and `failing_checks` cite.
-pub mod Failing
+pub mod Paper
 pub mod Places

@@ -1,7 +1,7 @@
 -- Rows as parts of the list of column numbers, and lists of places.
 --   Part l from count        == count column numbers of l from a place on, each the place of a bit
 --   BitsAt l from count z    == the word z has bits at them
---   ones l from count z      == the sum of those bits
+--   onesAt l from count z      == the sum of those bits
 --   Checks l m rho z         == l holds m rows of rho column numbers each, and the word z has bits there
 --   rowFails l rho z i       == the parity of the bits at row i of such a list
 --   Places f m l t           == the first t of l are the places below m at which f is 1, each once
@@ -10,7 +10,7 @@ use mathlib.Core.Path.{_≡_}
 use mathlib.Core.List.{List}
 use Prim.Native.Nat.{ℕ, _+_, _*_, _%_, _<_, _≤_}
 use lib.ListN.{length}
-use Rattle.counting.specs.Sum.{sum, same}
+use Rattle.counting.specs.Paper.Sum.{sumBelow, same}
 use Rattle.counting.specs.Places.{at}
 
 -- a part of the list, within the largest list there is
@@ -24,8 +24,8 @@ abbrev pub BitsAt : List ℕ → ℕ → ℕ → (ℕ → ℕ) → Type 0
 BitsAt l from count z = (k : ℕ) → k < count → z (at l (from + k)) < 2
 
 -- how many of these bits are 1
-unfoldable pub ones : List ℕ → ℕ → ℕ → (ℕ → ℕ) → ℕ
-ones l from count z = sum count (λ k. z (at l (from + k)))
+unfoldable pub onesAt : List ℕ → ℕ → ℕ → (ℕ → ℕ) → ℕ
+onesAt l from count z = sumBelow count (λ k. z (at l (from + k)))
 
 -- the rows of a list, each a part of it
 pub record Checks (l : List ℕ) (m rho : ℕ) (z : ℕ → ℕ) : Type 0 where
@@ -35,12 +35,12 @@ pub record Checks (l : List ℕ) (m rho : ℕ) (z : ℕ → ℕ) : Type 0 where
 
 -- whether the check of row i fails, by the list alone
 unfoldable pub rowFails : List ℕ → ℕ → (ℕ → ℕ) → ℕ → ℕ
-rowFails l rho z i = ones l (i * rho) rho z % 2
+rowFails l rho z i = onesAt l (i * rho) rho z % 2
 
 -- a list of places, kept at the front of an array
 pub record Places (f : ℕ → ℕ) (m : ℕ) (l : List ℕ) (t : ℕ) : Type 0 where
   pub long : length l ≡ 1023
   pub few : t ≤ m
   pub below : (q : ℕ) → q < t → at l q < m
-  pub each : (x : ℕ) → x < m → sum t (λ q. same (at l q) x) ≡ f x
-  pub total : t ≡ sum m f
+  pub each : (x : ℕ) → x < m → sumBelow t (λ q. same (at l q) x) ≡ f x
+  pub total : t ≡ sumBelow m f

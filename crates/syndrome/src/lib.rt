@@ -6,19 +6,19 @@ use matrix_check::Shape;
 ghost use mathlib.Core.Path.{_≡_};
 ghost use Prim.Native.Nat.{_%_, _≤_};
 ghost use lib.ListN.{length};
-ghost use Rattle.answers.specs.Answers.{verdictOf};
+ghost use Rattle.answers.specs.Paper.Enums.{verdictOf};
 ghost use Rattle.counting.specs.Places.{at};
-ghost use Rattle.matrix.specs.Code.{Word, fails, failing};
-ghost use Rattle.matrix.specs.Reading.{Accepted};
-ghost use Rattle.matrix.specs.Shapes.{matrixOf};
-ghost use Rattle.syndrome.specs.Failing.{wordVerdict};
-ghost use Rattle.syndrome.specs.Places.{Part, BitsAt, ones, Checks, rowFails, Places};
+ghost use Rattle.matrix.specs.Paper.Code.{Word, fails, failing};
+ghost use Rattle.matrix.specs.Paper.PlainCheck.{Accepted};
+ghost use Rattle.matrix.specs.Paper.Shapes.{matrixOf};
+ghost use Rattle.syndrome.specs.Paper.Failing.{wordVerdict};
+ghost use Rattle.syndrome.specs.Places.{Part, BitsAt, onesAt, Checks, rowFails, Places};
 
 // The parity of the bits at `count` column numbers of the list: a row's check fails where it is 1.
 // Only this repository's crates call it, with rows of an accepted matrix.
 pub fn row_parity(list: &[u16], from: usize, count: usize, bits: &[u8; 1023]) -> u8
     requires { ⌜ Part (now list) from count × BitsAt (now list) from count (at (now bits)) ⌝ }
-    ensures { λ r. ⌜ r ≡ ones (now (list .entry)) from count (at (now (bits .entry))) % 2 ⌝ }
+    ensures { λ r. ⌜ r ≡ onesAt (now (list .entry)) from count (at (now (bits .entry))) % 2 ⌝ }
 {
     let mut x: u8 = 0;
     let mut k = 0;

@@ -1,4 +1,2 @@
 -- The worked examples and their proof.
-pub mod Calls
-pub mod Table
-pub mod Bounds
+pub mod Paper

@@ -3,9 +3,9 @@ use mathlib.Core.Path.{_≡_, sym, ap, _∙_}
 use Prim.Native.Nat.{ℕ, _-_, _/_, _≤_, _<_}
 use native.Mathlib.Omega.{arith}
 use lib.ListN.{length}
-use Rattle.counting.specs.Lists.{listed, over}
-use Rattle.counting.proofs.Writing.{over-none, over-step, over-long}
-use Rattle.byte_numbers.specs.Numbers.{entryIn, entriesIn}
+use Rattle.counting.specs.Paper.Lists.{listed, over}
+use Rattle.counting.proofs.Writes.{over-none, over-step, over-long}
+use Rattle.byte_numbers.specs.Paper.Numbers.{entryIn, entriesIn}
 use Rattle.byte_numbers.proofs.entries.Statement.{statement}
 use Rattle.byte_numbers.proofs.entries.Tie as tie
 
@@ -44,8 +44,11 @@ unfolding entryIn
 loop-again c =
     let l = c .before .before in
     let s = l .before .before .before in
-    let room : l .loop .i < length (s .args .list .now) = omega arith in
-    (omega arith, over-step (l .loop .i) (entryIn (s .args .bytes .now)) (s .args .list .now) (l .loop .list) (l .loop .inv .1) (c .number16 .result) room (c .number16 .ensures))
+    let room : l .loop .i < length (s .args .list .now) = omega arith in (
+      omega arith,
+      over-step (l .loop .i) (entryIn (s .args .bytes .now)) (s .args .list .now) (l .loop .list) (l .loop .inv .1)
+          (c .number16 .result) room (c .number16 .ensures),
+    )
 
 same-length : tie.Need-same-length Inv-loop μ-loop
 same-length c =

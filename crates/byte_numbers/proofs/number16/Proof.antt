@@ -2,7 +2,7 @@
 use mathlib.Core.Path.{ap₂}
 use Prim.Native.Nat.{ℕ, _+_, _*_}
 use borrow.Author.Needs.{needs}
-use Rattle.byte_numbers.specs.Numbers.{number16}
+use Rattle.byte_numbers.specs.Paper.Numbers.{number16}
 use Rattle.byte_numbers.proofs.number16.Statement.{statement}
 use Rattle.byte_numbers.proofs.number16.Tie as tie
 

@@ -2,7 +2,7 @@
 use mathlib.Core.Path.{ap₂}
 use Prim.Native.Nat.{ℕ, _+_, _*_}
 use borrow.Author.Needs.{needs}
-use Rattle.byte_numbers.specs.Numbers.{number32}
+use Rattle.byte_numbers.specs.Paper.Numbers.{number32}
 use Rattle.byte_numbers.proofs.number32.Statement.{statement}
 use Rattle.byte_numbers.proofs.number32.Tie as tie
 

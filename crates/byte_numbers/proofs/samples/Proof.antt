@@ -6,24 +6,29 @@ use native.Mathlib.Omega.{arith}
 use borrow.Author.Tests.{not-false}
 use lib.ListN.{length}
 use lib.Ieee.{binary32, ofBits}
-use Rattle.counting.specs.Lists.{listed, over}
-use Rattle.counting.proofs.Writing.{over-none, over-step, over-long}
-use Rattle.counting.specs.Search.{any}
+use Rattle.counting.specs.Paper.Lists.{listed, over}
+use Rattle.counting.proofs.Writes.{over-none, over-step, over-long}
+use Rattle.counting.specs.Paper.Search.{anyBelow}
 use Rattle.counting.proofs.Searches.{any-none, any-step, any-clear, first-none, first-at}
-use Rattle.byte_numbers.specs.Numbers.{sampleIn, notFiniteIn}
+use Rattle.byte_numbers.specs.Paper.Numbers.{sampleIn, notFiniteIn}
 use Rattle.byte_numbers.proofs.Patterns.{no-nan}
 use Rattle.byte_numbers.proofs.Floats.{sample-of, not-finite-at}
 use Rattle.byte_numbers.proofs.samples.Statement.{statement}
 use Rattle.byte_numbers.proofs.samples.Tie as tie
 
 abbrev Inv-loop : tie.InvT-loop
-Inv-loop bytes xs₀ count i₀ xs i = (i ≤ count) × (any (notFiniteIn bytes) i ≡ false) × (xs ≡ over (listed i (sampleIn bytes)) xs₀)
+Inv-loop bytes xs₀ count i₀ xs i = (i ≤ count) × (anyBelow (notFiniteIn bytes) i ≡ false) × (xs ≡ over (listed i (sampleIn bytes)) xs₀)
 
 abbrev μ-loop : tie.MeasureT-loop
 μ-loop bytes xs₀ count i₀ xs i = count - i
 
 loop-holds : tie.Need-loop-holds Inv-loop μ-loop
-loop-holds c = (omega arith, any-none _ 0 (λ j l. absurd (omega arith)), sym (over-none (sampleIn (c .before .before .args .bytes .now)) (c .before .before .args .xs .now)))
+loop-holds c = (
+  omega arith,
+  any-none _ 0 (λ j l. absurd (omega arith)),
+  sym
+      (over-none (sampleIn (c .before .before .args .bytes .now)) (c .before .before .args .xs .now)),
+)
 
 mul-number32 : tie.Need-mul-number32 Inv-loop μ-loop
 mul-number32 c = omega arith

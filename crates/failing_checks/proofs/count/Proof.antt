@@ -3,8 +3,8 @@ use borrow.Author.Needs.{needs}
 use mathlib.Core.Path.{_∙_}
 use native.Mathlib.Omega.{arith}
 use lib.ListN.{replicate}
-use Rattle.matrix.specs.Shapes.{matrixOf}
-use Rattle.syndrome.proofs.Unpacking.{unpacked-word, unpacked-failing}
+use Rattle.matrix.specs.Paper.Shapes.{matrixOf}
+use Rattle.syndrome.proofs.Unpacked.{unpacked-word, unpacked-failing}
 use Rattle.failing_checks.proofs.count.Statement.{statement}
 use Rattle.failing_checks.proofs.count.Tie as tie
 

@@ -1,9 +1,9 @@
 -- `failing_checks::failing`: the matrix check's refusal, else the count on the accepted matrix.
 use borrow.Author.Needs.{needs}
 use mathlib.Core.Path.{sym, ap, _∙_}
-use Rattle.answers.specs.Answers.{verdictOf, numberOf, placeOf}
-use Rattle.matrix.specs.Shapes.{matrixOf}
-use Rattle.matrix.proofs.Reading.{accepted-is}
+use Rattle.answers.specs.Paper.Enums.{verdictOf, numberOf, placeOf}
+use Rattle.matrix.specs.Paper.Shapes.{matrixOf}
+use Rattle.matrix.proofs.PlainCheck.{accepted-is}
 use Rattle.failing_checks.proofs.Verdicts.{failing-matrix}
 use Rattle.failing_checks.proofs.failing.Statement.{statement}
 use Rattle.failing_checks.proofs.failing.Tie as tie

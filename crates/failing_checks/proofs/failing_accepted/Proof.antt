@@ -2,11 +2,11 @@
 use borrow.Author.Needs.{needs}
 use Prim.Native.Nat.{ℕ}
 use mathlib.Core.Path.{sym, ap, _∙_}
-use Rattle.answers.specs.Paper.{report}
-use Rattle.answers.specs.Answers.{verdictOf, numberOf, placeOf}
-use Rattle.packed_word.specs.Packed.{bytesFor}
-use Rattle.matrix.specs.Shapes.{matrixOf}
-use Rattle.matrix.proofs.Reading.{is-accepted}
+use Rattle.answers.specs.Paper.Answers.{report}
+use Rattle.answers.specs.Paper.Enums.{verdictOf, numberOf, placeOf}
+use Rattle.packed_word.specs.Paper.Packed.{bytesFor}
+use Rattle.matrix.specs.Paper.Shapes.{matrixOf}
+use Rattle.matrix.proofs.PlainCheck.{is-accepted}
 use Rattle.syndrome.proofs.Received.{word-fits}
 use Rattle.failing_checks.proofs.Verdicts.{failing-refused, failing-says}
 use Rattle.failing_checks.proofs.failing_accepted.Statement.{statement}

@@ -1,6 +1,6 @@
 -- `ffi::mlgd_check` meets its contract: the code of what the check says. Assumes nothing.
 use mathlib.Core.Path.{ap, _∙_}
-use Rattle.answers.specs.Paper.{Verdict, after, report}
+use Rattle.answers.specs.Paper.Answers.{Verdict, after, report}
 use Rattle.ffi_codes.specs.Codes.{codeOf}
 use borrow.Author.Needs.{needs}
 use Rattle.ffi.proofs.mlgd_check.Statement.{statement}

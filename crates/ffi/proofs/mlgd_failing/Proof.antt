@@ -1,6 +1,6 @@
 -- `ffi::mlgd_failing` meets its contract: the code of what the count says. Assumes nothing.
 use mathlib.Core.Path.{sym, ap, subst, _∙_}
-use Rattle.matrix.specs.Code.{matrix}
+use Rattle.matrix.specs.Paper.Code.{matrix}
 use Rattle.ffi_codes.specs.Codes.{codeOf, Small}
 use Rattle.ffi.proofs.Bounds.{failing-small}
 use borrow.Author.Needs.{needs}

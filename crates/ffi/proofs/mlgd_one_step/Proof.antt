@@ -1,7 +1,7 @@
 -- `ffi::mlgd_one_step` meets its contract: the code of what one-step voting says, and the word that it writes. Assumes nothing.
 use mathlib.Core.Path.{sym, ap, subst, _∙_}
 use lib.ListN.{length}
-use Rattle.matrix.specs.Code.{matrix}
+use Rattle.matrix.specs.Paper.Code.{matrix}
 use Rattle.ffi_codes.specs.Codes.{codeOf, Small}
 use Rattle.ffi.proofs.Bounds.{one-step-small}
 use borrow.Author.Needs.{needs}

@@ -3,18 +3,18 @@ use mathlib.Core.Path.{_≡_, sym, ap, subst, _∙_}
 use mathlib.Core.List.{List}
 use Prim.Native.Nat.{ℕ}
 use lib.IntN.{ℤ}
-use Rattle.matrix.specs.Code.{Matrix, matrix}
-use Rattle.session_record.specs.Record.{Record}
-use Rattle.session_record.specs.Sessions.{recordOf}
-use Rattle.session.specs.Leaving.{Leaves}
-use Rattle.session_asking.specs.Asked.{Held}
-use Rattle.session.specs.Steps.{Left, openOf}
-use Rattle.session_asking.specs.Asked.{lent}
+use Rattle.matrix.specs.Paper.Code.{Matrix, matrix}
+use Rattle.session_record.specs.Paper.Record.{Record}
+use Rattle.session_record.specs.Paper.Sessions.{recordOf}
+use Rattle.session.specs.Paper.Call.{Leaves}
+use Rattle.session_asking.specs.Paper.Asked.{Held}
+use Rattle.session.specs.Paper.Steps.{Left, openOf}
+use Rattle.session_asking.specs.Paper.Asked.{lent}
 use Rattle.ffi_codes.specs.Codes.{Small}
 use Rattle.ffi_codes.specs.Records.{recordIn}
-use Rattle.quantiser_levels.specs.Samples.{Choice}
-use Rattle.quantiser_settings.specs.Settings.{choiceOf}
-use Rattle.ffi_codes.specs.Settings.{choice}
+use Rattle.quantiser_levels.specs.Paper.Samples.{Setting}
+use Rattle.quantiser_settings.specs.Paper.Settings.{settingOf}
+use Rattle.ffi_codes.specs.Settings.{settingBy}
 use Rattle.ffi.proofs.Sessions.{open-small, open-alike, called, on-record, no-record}
 use borrow.Author.Needs.{needs}
 use Rattle.ffi.proofs.mlgd_open.Statement.{statement}
@@ -40,7 +40,7 @@ turn-code-requires c κs =
     let H : Matrix = matrix (a .n) (a .m) (a .rho) (a .gamma) (a .list .now) in
     let w : List ℕ = a .word .now in
     let ls : List ℤ = a .levels .now in
-    let T : Choice = choiceOf (c .before .before .before .before .before .before .before .before .before .setting-of .result) in (
+    let T : Setting = settingOf (c .before .before .before .before .before .before .before .before .before .setting-of .result) in (
       c .before .before .before .before .before .before .before .before .before .before .if1 .left,
       subst Small (sym (t .ensures .says))
           (open-small H T (a .samples .now) (lent (recordOf (s .result)) w ls)),
@@ -65,8 +65,8 @@ returns-2 c =
     let w : List ℕ = a .word .now in
     let ls : List ℤ = a .levels .now in
     let e = c .before .before .before .before .before .before .before .before .before .before .before .before .setting-of in
-    let S : Choice = choice (a .bits) (a .limit) (a .kind) (a .step) in
-    let T : Choice = choiceOf (e .result) in
+    let S : Setting = settingBy (a .bits) (a .limit) (a .kind) (a .step) in
+    let T : Setting = settingOf (e .result) in
     let h : Held = lent (recordIn (a .cells .now)) w ls in
     let q : openOf H T (a .samples .now) (lent (recordOf (s .result)) w ls) ≡ openOf H S (a .samples .now) h =
     ap (λ (r : Record). openOf H T (a .samples .now) (lent r w ls)) (s .ensures) ∙ open-alike H S T (e .ensures) (a .samples .now) h in

@@ -1,10 +1,10 @@
 -- `ffi::mlgd_quantise` meets its contract: what the quantiser answers and writes for the setting that stands for the lent one. Assumes nothing.
 use mathlib.Core.Path.{ap, _∙_}
-use Rattle.answers.specs.Paper.{Verdict, after, report}
-use Rattle.answers.specs.Answers.{verdictOf}
-use Rattle.quantiser_settings.specs.Settings.{choiceOf}
+use Rattle.answers.specs.Paper.Answers.{Verdict, after, report}
+use Rattle.answers.specs.Paper.Enums.{verdictOf}
+use Rattle.quantiser_settings.specs.Paper.Settings.{settingOf}
 use Rattle.ffi_codes.specs.Codes.{codeOf}
-use Rattle.ffi_codes.specs.Settings.{choice}
+use Rattle.ffi_codes.specs.Settings.{settingBy}
 use Rattle.ffi.proofs.Alike.{quantise-alike}
 use borrow.Author.Needs.{needs}
 use Rattle.ffi.proofs.mlgd_quantise.Statement.{statement}
@@ -30,7 +30,7 @@ returns c =
     let a = c .before .before .before .before .before .before .before .before .before .before .args in
     let t = c .before .before .before .before .before .before .before .setting-of in
     let r = c .before .before .before .before .quantise in
-    let q = quantise-alike (choice (a .bits) (a .limit) (a .kind) (a .step)) (choiceOf (t .result)) (t .ensures) (a .samples .now) (verdictOf (r .result))
+    let q = quantise-alike (settingBy (a .bits) (a .limit) (a .kind) (a .step)) (settingOf (t .result)) (t .ensures) (a .samples .now) (verdictOf (r .result))
     (a .levels .now) (r .last .1 .1 .0) (a .word .now) (r .last .1 .1 .1 .0) (r .ensures) in
     record {
       answer = c .checked-code .ensures ∙ ap (λ (v : Verdict). codeOf (after v (report 0 0 0 0))) (q .answer);

@@ -3,13 +3,13 @@ use mathlib.Core.Path.{sym, subst}
 use mathlib.Core.List.{List}
 use Prim.Native.Nat.{ℕ}
 use lib.IntN.{ℤ}
-use Rattle.matrix.specs.Code.{Matrix, matrix}
-use Rattle.session_record.specs.Record.{Record}
-use Rattle.session_record.specs.Sessions.{recordOf}
-use Rattle.session.specs.Leaving.{Leaves}
-use Rattle.session_asking.specs.Asked.{Held}
-use Rattle.session.specs.Steps.{stepOf}
-use Rattle.session_asking.specs.Asked.{lent}
+use Rattle.matrix.specs.Paper.Code.{Matrix, matrix}
+use Rattle.session_record.specs.Paper.Record.{Record}
+use Rattle.session_record.specs.Paper.Sessions.{recordOf}
+use Rattle.session.specs.Paper.Call.{Leaves}
+use Rattle.session_asking.specs.Paper.Asked.{Held}
+use Rattle.session.specs.Paper.Steps.{stepOf}
+use Rattle.session_asking.specs.Paper.Asked.{lent}
 use Rattle.ffi_codes.specs.Codes.{Small}
 use Rattle.ffi_codes.specs.Records.{recordIn}
 use Rattle.ffi.proofs.Sessions.{step-small, called, on-record, no-record}

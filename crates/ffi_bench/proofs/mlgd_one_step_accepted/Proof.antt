@@ -1,7 +1,7 @@
 -- `ffi_bench::mlgd_one_step_accepted` meets its contract: the code of the core's report, and the word that it writes. Assumes nothing.
 use mathlib.Core.Path.{sym, ap, subst, _∙_}
-use Rattle.packed_word.specs.Packed.{bitAt}
-use Rattle.matrix.specs.Code.{matrix}
+use Rattle.packed_word.specs.Paper.Packed.{bitAt}
+use Rattle.matrix.specs.Paper.Code.{matrix}
 use Rattle.ffi_codes.specs.Codes.{codeOf, Small}
 use Rattle.ffi.proofs.Bounds.{report-small}
 use borrow.Author.Needs.{needs}

@@ -1,7 +1,7 @@
 -- `ffi_codes::answer_code` meets its contract: each case by what its own code ensures. Assumes nothing.
 use mathlib.Core.Path.{sym, ap, subst, _∙_}
 use Rattle.answers.specs.declared.Answer.{Answer}
-use Rattle.answers.specs.Answers.{saidOf}
+use Rattle.answers.specs.Paper.Enums.{saidOf}
 use Rattle.ffi_codes.specs.Codes.{codeOf, Small}
 use borrow.Author.Needs.{needs}
 use Rattle.ffi_codes.proofs.answer_code.Statement.{statement}

@@ -1,8 +1,8 @@
 -- `ffi_codes::checked_code` meets its contract: a refusal by what its own code ensures. Assumes nothing.
 use mathlib.Core.Path.{sym, ap, _∙_}
 use Rattle.answers.specs.declared.Checked.{Checked}
-use Rattle.answers.specs.Answers.{verdictOf}
-use Rattle.answers.specs.Paper.{after, report}
+use Rattle.answers.specs.Paper.Enums.{verdictOf}
+use Rattle.answers.specs.Paper.Answers.{after, report}
 use Rattle.ffi_codes.specs.Codes.{codeOf}
 use borrow.Author.Needs.{needs}
 use Rattle.ffi_codes.proofs.checked_code.Statement.{statement}

@@ -5,10 +5,10 @@ use Prim.Native.Nat.{ℕ, _-_, _≤_}
 use native.Mathlib.Nat.{le-antisymm}
 use native.Mathlib.Omega.{arith}
 use lib.ListN.{length, getD, length-set}
-use Rattle.counting.specs.Lists.{listed, over}
+use Rattle.counting.specs.Paper.Lists.{listed, over}
 use Rattle.counting.specs.Places.{at}
-use Rattle.counting.proofs.Writing.{over-none, listed-getD}
-use Rattle.packed_word.proofs.Storing.{over-next}
+use Rattle.counting.proofs.Writes.{over-none, listed-getD}
+use Rattle.packed_word.proofs.Stores.{over-next}
 use Rattle.ffi_codes.proofs.copy_front.Statement.{statement}
 use Rattle.ffi_codes.proofs.copy_front.Tie as tie
 

@@ -3,7 +3,7 @@ use Prim.Native.Nat.{ℕ, _+_, _*_}
 use native.Mathlib.Omega.{arith}
 use mathlib.Core.Path.{_≡_, sym, ap, _∙_}
 use Rattle.answers.specs.declared.Counted.{Counted}
-use Rattle.answers.specs.Answers.{countedOf}
+use Rattle.answers.specs.Paper.Enums.{countedOf}
 use Rattle.ffi_codes.specs.Codes.{codeOf}
 use borrow.Author.Needs.{needs}
 use Rattle.ffi_codes.proofs.counted_code.Statement.{statement}

@@ -2,7 +2,7 @@
 use mathlib.Core.Path.{ap, _∙_}
 use mathlib.Core.List.{[], _∷_}
 use Prim.Native.Nat.{ℕ}
-use Rattle.counting.specs.Lists.{over}
+use Rattle.counting.specs.Paper.Lists.{over}
 use borrow.Author.Needs.{needs}
 use Rattle.ffi_codes.proofs.session_out.Statement.{statement}
 use Rattle.ffi_codes.proofs.session_out.Tie as tie

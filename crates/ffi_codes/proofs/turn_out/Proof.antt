@@ -1,8 +1,8 @@
 -- `ffi_codes::turn_out` meets its contract: a report's record is written, a refusal keeps the cells. Assumes nothing.
 use mathlib.Core.Path.{sym, ap, _∙_}
 use Rattle.answers.specs.declared.Answer.{Answer}
-use Rattle.answers.specs.Answers.{saidOf}
-use Rattle.session_record.specs.Sessions.{recordOf}
+use Rattle.answers.specs.Paper.Enums.{saidOf}
+use Rattle.session_record.specs.Paper.Sessions.{recordOf}
 use Rattle.ffi_codes.specs.Records.{cellsOf, writtenBy}
 use borrow.Author.Needs.{needs}
 use Rattle.ffi_codes.proofs.turn_out.Statement.{statement}

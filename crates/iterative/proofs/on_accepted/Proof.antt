@@ -1,11 +1,11 @@
 -- `iterative::on_accepted` meets its contract: a refusal of setting or samples keeps both buffers, else the decoding. Assumes nothing.
 use mathlib.Core.Path.{refl, sym, ap, _∙_}
 use borrow.Author.Needs.{needs}
-use Rattle.answers.specs.Answers.{verdictOf, numberOf, placeOf}
-use Rattle.matrix.specs.Code.{Matrix}
-use Rattle.matrix.specs.Shapes.{matrixOf}
+use Rattle.answers.specs.Paper.Enums.{verdictOf, numberOf, placeOf}
+use Rattle.matrix.specs.Paper.Code.{Matrix}
+use Rattle.matrix.specs.Paper.Shapes.{matrixOf}
 use Rattle.iterative_core.proofs.Loans.{samples-lent}
-use Rattle.iterative.proofs.Answering.{refused-samples, answered-decoded}
+use Rattle.iterative.proofs.Calls.{refused-samples, answered-decoded}
 use Rattle.iterative.proofs.on_accepted.Statement.{statement}
 use Rattle.iterative.proofs.on_accepted.Tie as tie
 

@@ -5,12 +5,12 @@ use native.Mathlib.Omega.{arith}
 use borrow.Author.Needs.{needs}
 use borrow.Author.Tests.{not-true, not-false}
 use lib.ListN.{length}
-use Rattle.answers.specs.Paper.{wrongLengths}
+use Rattle.answers.specs.Paper.Answers.{wrongLengths}
 use Rattle.answers.proofs.Verdicts.{lengths-fit}
-use Rattle.packed_word.specs.Packed.{bytesFor}
-use Rattle.quantiser_levels.specs.Samples.{settingFits}
-use Rattle.quantiser_settings.specs.Settings.{choiceOf}
-use Rattle.iterative_core.proofs.Asking.{says-setting, says-lengths, says-sample, says-finite}
+use Rattle.packed_word.specs.Paper.Packed.{bytesFor}
+use Rattle.quantiser_levels.specs.Paper.Samples.{settingFits}
+use Rattle.quantiser_settings.specs.Paper.Settings.{settingOf}
+use Rattle.iterative_core.proofs.Questions.{says-setting, says-lengths, says-sample, says-finite}
 use Rattle.iterative_core.proofs.ask_samples.Statement.{statement}
 use Rattle.iterative_core.proofs.ask_samples.Tie as tie
 
@@ -19,7 +19,7 @@ use Rattle.iterative_core.proofs.ask_samples.Tie as tie
 abbrev asked-setting : tie.Else1 → tie.Start
 asked-setting c = c .before .before .before
 
-fits : (c : tie.Else1) → settingFits (choiceOf (asked-setting c .args .setting)) ≡ true
+fits : (c : tie.Else1) → settingFits (settingOf (asked-setting c .args .setting)) ≡ true
 fits c = sym (c .before .setting-fits .ensures) ∙ not-false _ (c .if1 .left)
 
 abbrev asked-lengths : tie.Else2 → tie.Start
@@ -38,7 +38,7 @@ setting-fits-requires c κs = search needs
 returns : tie.Need-returns
 returns c =
     let a = c .before .before .before .args in
-    says-setting (a .n) (choiceOf (a .setting)) (a .samples .now) (a .bytes) (a .room) (sym (c .before .setting-fits .ensures) ∙ not-true _ (c .if1 .taken))
+    says-setting (a .n) (settingOf (a .setting)) (a .samples .now) (a .bytes) (a .room) (sym (c .before .setting-fits .ensures) ∙ not-true _ (c .if1 .taken))
 
 wrong-lengths-requires : tie.Need-wrong-lengths-requires
 wrong-lengths-requires c κs = search needs
@@ -47,7 +47,7 @@ returns-2 : tie.Need-returns-2
 returns-2 c =
     let b = c .before .before in
     let a = asked-setting b .args in
-    says-lengths (a .n) (choiceOf (a .setting)) (a .samples .now) (a .bytes) (a .room) (fits b) (sym (c .before .wrong-lengths .ensures) ∙ c .if2 .taken)
+    says-lengths (a .n) (settingOf (a .setting)) (a .samples .now) (a .bytes) (a .room) (fits b) (sym (c .before .wrong-lengths .ensures) ∙ c .if2 .taken)
 
 first-not-finite-requires : tie.Need-first-not-finite-requires
 first-not-finite-requires c κs = search needs
@@ -63,14 +63,14 @@ returns-3 : tie.Need-returns-3
 returns-3 c =
     let b = c .before .before in
     let a = asked-lengths b .args in
-    says-sample (a .n) (choiceOf (a .setting)) (a .samples .now) (a .bytes) (a .room) (fits (b .before .before)) (lengths b) _
+    says-sample (a .n) (settingOf (a .setting)) (a .samples .now) (a .bytes) (a .room) (fits (b .before .before)) (lengths b) _
     (c .before .first-not-finite .ensures) (c .if3 .taken)
 
 returns-4 : tie.Need-returns-4
 returns-4 c =
     let b = c .before .before in
     let a = asked-lengths b .args in
-    says-finite (a .n) (choiceOf (a .setting)) (a .samples .now) (a .bytes) (a .room) (fits (b .before .before)) (lengths b) _
+    says-finite (a .n) (settingOf (a .setting)) (a .samples .now) (a .bytes) (a .room) (fits (b .before .before)) (lengths b) _
     (c .before .first-not-finite .ensures) (c .if3 .left)
 
 pub ask-samples-spec : {M : Type 1} → statement M

@@ -5,7 +5,7 @@ use Prim.Native.Nat.{ℕ, _*_, _≤_}
 use native.Mathlib.Omega.{arith}
 use borrow.Author.Needs.{needs}
 use lib.ListN.{length, take, length-take}
-use Rattle.packed_word.specs.Packed.{bitAt, bytesFor, distance}
+use Rattle.packed_word.specs.Paper.Packed.{bitAt, bytesFor, distance}
 use Rattle.iterative_core.proofs.changed_bits.Statement.{statement}
 use Rattle.iterative_core.proofs.changed_bits.Tie as tie
 

@@ -6,7 +6,7 @@ use native.Mathlib.Omega.{arith}
 use borrow.Author.Needs.{needs}
 use lib.ListN.{length-replicate}
 use Rattle.quantiser_settings.proofs.Ranges.{fits-reads}
-use Rattle.iterative_core.proofs.Finishing.{call-ready, call-hard, call-bits, call-restorable, call-decoded, packed-room}
+use Rattle.iterative_core.proofs.Results.{call-ready, call-hard, call-bits, call-restorable, call-decoded, packed-room}
 use Rattle.iterative_core.proofs.iterative_accepted.Statement.{statement}
 use Rattle.iterative_core.proofs.iterative_accepted.Tie as tie
 
@@ -32,7 +32,13 @@ middle-of-requires c κs = let r = fits-reads _ (c .before .before .before .befo
 start-requires : tie.Need-start-requires
 start-requires c κs =
     let p = c .before .before .before .before .before .before .before .before .before .pre .0 in (
-      record { setting = p .setting; finite = p .finite; few = omega (arith, p .samples, p .matrix .sizes .n-most); room = omega (arith, p .samples, p .room-levels) },
+      record {
+        setting = p .setting;
+        each-finite = p .each-finite;
+        few = omega (arith, p .samples, p .matrix .sizes .n-most);
+        room = omega
+            (arith, p .samples, p .room-levels);
+      },
       c .before .before .before .middle-of .ensures,
       refl,
     )
@@ -84,7 +90,9 @@ same-length : tie.Need-same-length
 same-length c = search needs
 
 same-length-2 : tie.Need-same-length-2
-same-length-2 c = c .before .before .before .before .levels2 .given ∙ c .before .before .before .before .before .before .before .before .before .before .before .before .before .before .before .before .before .before .before .before .levels .given
+same-length-2 c = c .before .before .before .before .levels2 .given
+    ∙ c .before .before .before .before .before .before .before .before .before .before .before .before .before .before .before .before .before .before
+    .before .before .levels .given
 
 returns : tie.Need-returns
 returns c =

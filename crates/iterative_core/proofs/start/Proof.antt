@@ -1,6 +1,6 @@
 -- `iterative_core::start` meets its contract: the levels of the samples lie in their range, so that they can be kept. Assumes nothing.
 use borrow.Author.Needs.{needs}
-use Rattle.iterative_core.proofs.Finishing.{filled-bounded, filled-started}
+use Rattle.iterative_core.proofs.Results.{filled-bounded, filled-started}
 use Rattle.iterative_core.proofs.start.Statement.{statement}
 use Rattle.iterative_core.proofs.start.Tie as tie
 

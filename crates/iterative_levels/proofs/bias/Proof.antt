@@ -10,7 +10,7 @@ use mir.Val.{toZ, ofZ}
 use mir.ValLaws.{toZ-ofZ}
 use Rattle.iterative_levels.specs.Levels.{biased, Biased}
 use Rattle.iterative_levels.proofs.Signs.{level-byte}
-use Rattle.iterative_levels.proofs.Passing.{biased-none, biased-step}
+use Rattle.iterative_levels.proofs.Passes.{biased-none, biased-step}
 use Rattle.iterative_levels.proofs.bias.Statement.{statement}
 use Rattle.iterative_levels.proofs.bias.Tie as tie
 

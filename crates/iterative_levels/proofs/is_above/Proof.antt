@@ -2,7 +2,7 @@
 use mathlib.Core.Path.{sym, ap}
 use native.Mathlib.Omega.{arith}
 use borrow.Author.Tests.{lt-ltb, le-ltb, ltb-true, ltb-false}
-use Rattle.counting.specs.Sum.{flag}
+use Rattle.counting.specs.Paper.Sum.{flag}
 use Rattle.iterative_levels.specs.Levels.{aboveMiddle}
 use Rattle.iterative_levels.proofs.is_above.Statement.{statement}
 use Rattle.iterative_levels.proofs.is_above.Tie as tie

@@ -7,8 +7,8 @@ use borrow.Author.Needs.{sfits-of}
 use mir.Syntax.{w8}
 use mir.ValLaws.{toZ-ofZ}
 use lib.ListN.{length}
-use Rattle.counting.specs.Lists.{listed, over}
-use Rattle.counting.proofs.Writing.{over-none, over-long, over-step}
+use Rattle.counting.specs.Paper.Lists.{listed, over}
+use Rattle.counting.proofs.Writes.{over-none, over-long, over-step}
 use Rattle.iterative_levels.specs.Levels.{unbiased}
 use Rattle.iterative_levels.proofs.unbias.Statement.{statement}
 use Rattle.iterative_levels.proofs.unbias.Tie as tie

@@ -5,15 +5,15 @@ use native.Mathlib.Nat.{le-antisymm}
 use native.Mathlib.Omega.{arith}
 use borrow.Author.Needs.{needs}
 use Rattle.iterative_levels.specs.Levels.{Moved}
-use Rattle.iterative_levels.proofs.Passing.{moved-none, moved-step}
+use Rattle.iterative_levels.proofs.Passes.{moved-none, moved-step}
 use Rattle.iterative_levels.proofs.update.Statement.{statement}
 use Rattle.iterative_levels.proofs.update.Tie as tie
 
 abbrev Inv-loop : tie.InvT-loop
-Inv-loop votes n gamma middle top bits₀ levels₀ j₀ bits levels j = (j ≤ n) × Moved votes j gamma middle top bits₀ levels₀ bits levels
+Inv-loop votes n gamma middle ceiling bits₀ levels₀ j₀ bits levels j = (j ≤ n) × Moved votes j gamma middle ceiling bits₀ levels₀ bits levels
 
 abbrev μ-loop : tie.MeasureT-loop
-μ-loop votes n gamma middle top bits₀ levels₀ j₀ bits levels j = n - j
+μ-loop votes n gamma middle ceiling bits₀ levels₀ j₀ bits levels j = n - j
 
 loop-holds : tie.Need-loop-holds Inv-loop μ-loop
 loop-holds c = (omega arith, moved-none _ _ _ _ _ _ (c .pre .1) (c .pre .2))
@@ -50,8 +50,10 @@ loop-again c =
     let l = c .before .before .before .before .before .before in
     let a = l .before .args in (
       omega arith,
-      moved-step (a .votes .now) (l .loop .j) (a .gamma) (a .middle) (a .top) (a .bits .now) (a .levels .now) (l .loop .bits) (l .loop .levels) (l .loop .inv .1)
-          (omega (arith, l .before .pre .0 .columns)) (c .before .next-level .result) (c .is-above .result) (c .before .next-level .ensures) (c .is-above .ensures),
+      moved-step (a .votes .now) (l .loop .j) (a .gamma) (a .middle) (a .ceiling) (a .bits .now) (a .levels .now) (l .loop .bits) (l .loop .levels)
+          (l .loop .inv .1)
+          (omega (arith, l .before .pre .0 .columns)) (c .before .next-level .result) (c .is-above .result) (c .before .next-level .ensures)
+          (c .is-above .ensures),
     )
 
 returns : tie.Need-returns Inv-loop μ-loop

@@ -1,15 +1,15 @@
 -- `iterative_rounds::round` meets its contract: what `update` leaves are bits, so that their votes can be tallied. Assumes nothing.
 use borrow.Author.Needs.{needs}
-use Rattle.matrix.specs.Shapes.{matrixOf}
-use Rattle.iterative_rounds.proofs.Running.{moved-word}
+use Rattle.matrix.specs.Paper.Shapes.{matrixOf}
+use Rattle.iterative_rounds.proofs.Runs.{moved-word}
 use Rattle.iterative_rounds.proofs.round.Statement.{statement}
 use Rattle.iterative_rounds.proofs.round.Tie as tie
 
 cast-n : tie.Need-cast-n
 cast-n c = search needs
 
-mul-top : tie.Need-mul-top
-mul-top c = search needs
+mul-ceiling : tie.Need-mul-ceiling
+mul-ceiling c = search needs
 
 update-requires : tie.Need-update-requires
 update-requires c κs = search needs
@@ -28,7 +28,7 @@ round-spec =
     tie.close
     (tie.spec
     cast-n
-    mul-top
+    mul-ceiling
     update-requires
     retally-requires
     returns)

@@ -5,7 +5,7 @@ use native.Mathlib.Nat.{le-antisymm}
 use native.Mathlib.Omega.{arith}
 use Rattle.counting.specs.Places.{at}
 use Rattle.syndrome.specs.Places.{Places}
-use Rattle.syndrome.proofs.Listing.{places-none, places-step}
+use Rattle.syndrome.proofs.Lists.{places-none, places-step}
 use Rattle.iterative_tally.proofs.list_odd.Statement.{statement}
 use Rattle.iterative_tally.proofs.list_odd.Tie as tie
 

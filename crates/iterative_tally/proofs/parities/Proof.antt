@@ -5,7 +5,7 @@ use native.Mathlib.Omega.{arith}
 use Rattle.counting.specs.Places.{at}
 use Rattle.syndrome.proofs.Parity.{row-is}
 use Rattle.iterative_tally.specs.Parities.{RowParities}
-use Rattle.iterative_tally.proofs.Keeping.{rows-none, rows-step}
+use Rattle.iterative_tally.proofs.KeptParities.{rows-none, rows-step}
 use Rattle.iterative_tally.proofs.parities.Statement.{statement}
 use Rattle.iterative_tally.proofs.parities.Tie as tie
 

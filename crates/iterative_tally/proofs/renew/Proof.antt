@@ -1,9 +1,9 @@
 -- `iterative_tally::renew`: the parities of all rows anew, or those of flipped bits' checks turned over.
 use borrow.Author.Needs.{needs}
 use Rattle.counting.specs.Places.{at}
-use Rattle.matrix.specs.Shapes.{matrixOf}
+use Rattle.matrix.specs.Paper.Shapes.{matrixOf}
 use Rattle.syndrome.proofs.Parity.{checks}
-use Rattle.iterative_tally.proofs.Keeping.{columns, turned-parities, rows-parities}
+use Rattle.iterative_tally.proofs.KeptParities.{columns, turned-parities, rows-parities}
 use Rattle.iterative_tally.proofs.renew.Statement.{statement}
 use Rattle.iterative_tally.proofs.renew.Tie as tie
 

@@ -1,9 +1,9 @@
 -- `iterative_tally::retally`: the parities become those of the new word, and its failing rows, added to a cleared array, are the votes.
 use borrow.Author.Needs.{needs}
 use Rattle.counting.specs.Places.{at}
-use Rattle.matrix.specs.Shapes.{matrixOf}
-use Rattle.majority_votes.proofs.Adding.{failing-parts, failing-room, tallied}
-use Rattle.iterative_tally.proofs.Keeping.{failing-places}
+use Rattle.matrix.specs.Paper.Shapes.{matrixOf}
+use Rattle.majority_votes.proofs.Sums.{failing-parts, failing-room, tallied}
+use Rattle.iterative_tally.proofs.KeptParities.{failing-places}
 use Rattle.iterative_tally.proofs.retally.Statement.{statement}
 use Rattle.iterative_tally.proofs.retally.Tie as tie
 

@@ -1,7 +1,7 @@
 -- `iterative_tally::turn_bit`: a bit that stays turns nothing, another one turns the rows of its column.
 use borrow.Author.Needs.{needs}
 use native.Mathlib.Omega.{arith}
-use Rattle.iterative_tally.proofs.Turning.{bit-stays, bit-turns}
+use Rattle.iterative_tally.proofs.Turns.{bit-stays, bit-turns}
 use Rattle.iterative_tally.proofs.turn_bit.Statement.{statement}
 use Rattle.iterative_tally.proofs.turn_bit.Tie as tie
 

@@ -3,13 +3,13 @@ use Prim.Native.Nat.{_-_, _≤_}
 use native.Mathlib.Nat.{le-antisymm}
 use native.Mathlib.Omega.{arith}
 use Rattle.counting.specs.Places.{among}
-use Rattle.iterative_tally.specs.Parities.{Turned}
-use Rattle.iterative_tally.proofs.Turning.{checks-none, checks-step}
+use Rattle.iterative_tally.specs.Parities.{ParitiesTurned}
+use Rattle.iterative_tally.proofs.Turns.{checks-none, checks-step}
 use Rattle.iterative_tally.proofs.turn_checks.Statement.{statement}
 use Rattle.iterative_tally.proofs.turn_checks.Tie as tie
 
 abbrev Inv-loop : tie.InvT-loop
-Inv-loop index from count parity₀ k₀ parity k = (k ≤ count) × Turned (among index from k) parity₀ parity
+Inv-loop index from count parity₀ k₀ parity k = (k ≤ count) × ParitiesTurned (among index from k) parity₀ parity
 
 abbrev μ-loop : tie.MeasureT-loop
 μ-loop index from count parity₀ k₀ parity k = count - k

@@ -3,13 +3,13 @@ use Prim.Native.Nat.{_-_, _≤_}
 use native.Mathlib.Nat.{le-antisymm}
 use native.Mathlib.Omega.{arith}
 use Rattle.counting.specs.Places.{at}
-use Rattle.iterative_tally.specs.Parities.{Turned, flips}
-use Rattle.iterative_tally.proofs.Turning.{turned-bits, flips-none, flips-step}
+use Rattle.iterative_tally.specs.Parities.{ParitiesTurned, flips}
+use Rattle.iterative_tally.proofs.Turns.{turned-bits, flips-none, flips-step}
 use Rattle.iterative_tally.proofs.turn_flipped.Statement.{statement}
 use Rattle.iterative_tally.proofs.turn_flipped.Tie as tie
 
 abbrev Inv-loop : tie.InvT-loop
-Inv-loop index n gamma before bits parity₀ j₀ parity j = (j ≤ n) × Turned (flips index gamma (at before) (at bits) j) parity₀ parity
+Inv-loop index n gamma before bits parity₀ j₀ parity j = (j ≤ n) × ParitiesTurned (flips index gamma (at before) (at bits) j) parity₀ parity
 
 abbrev μ-loop : tie.MeasureT-loop
 μ-loop index n gamma before bits parity₀ j₀ parity j = n - j

@@ -4,7 +4,7 @@ use mathlib.Core.Path.{sym, _∙_}
 use native.Mathlib.Nat.{le-antisymm, le-refl}
 use native.Mathlib.Omega.{arith}
 use Rattle.majority_flips.specs.Flips.{Voted}
-use Rattle.majority_flips.proofs.Flipping.{voted-none, voted-step}
+use Rattle.majority_flips.proofs.Flips.{voted-none, voted-step}
 use Rattle.majority_flips.proofs.flip_front.Statement.{statement}
 use Rattle.majority_flips.proofs.flip_front.Tie as tie
 

@@ -2,7 +2,7 @@
 use borrow.Author.Needs.{needs}
 use Prim.Native.Nat.{_*_}
 use lib.Dec.{ltb}
-use Rattle.majority_flips.proofs.Flipping.{flip-bit}
+use Rattle.majority_flips.proofs.Flips.{flip-bit}
 use Rattle.majority_flips.proofs.voted.Statement.{statement}
 use Rattle.majority_flips.proofs.voted.Tie as tie
 

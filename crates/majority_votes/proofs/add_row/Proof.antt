@@ -4,7 +4,7 @@ use native.Mathlib.Nat.{le-antisymm}
 use native.Mathlib.Omega.{arith}
 use Rattle.counting.specs.Places.{at, among}
 use Rattle.majority_votes.specs.Tallies.{More}
-use Rattle.majority_votes.proofs.Adding.{among-none, among-next, among-step}
+use Rattle.majority_votes.proofs.Sums.{among-none, among-next, among-step}
 use Rattle.majority_votes.proofs.add_row.Statement.{statement}
 use Rattle.majority_votes.proofs.add_row.Tie as tie
 

@@ -3,7 +3,7 @@ use Prim.Native.Nat.{_-_, _≤_}
 use native.Mathlib.Nat.{le-antisymm}
 use native.Mathlib.Omega.{arith}
 use Rattle.majority_votes.specs.Tallies.{ofRows, More}
-use Rattle.majority_votes.proofs.Adding.{rows-none, rows-next, rows-step}
+use Rattle.majority_votes.proofs.Sums.{rows-none, rows-next, rows-step}
 use Rattle.majority_votes.proofs.add_rows.Statement.{statement}
 use Rattle.majority_votes.proofs.add_rows.Tie as tie
 

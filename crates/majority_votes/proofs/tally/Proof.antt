@@ -1,8 +1,8 @@
 -- `majority_votes::tally`: the failing rows, added to a cleared array, are the votes.
 use borrow.Author.Needs.{needs}
 use Rattle.counting.specs.Places.{at}
-use Rattle.matrix.specs.Shapes.{matrixOf}
-use Rattle.majority_votes.proofs.Adding.{failing-parts, failing-room, tallied}
+use Rattle.matrix.specs.Paper.Shapes.{matrixOf}
+use Rattle.majority_votes.proofs.Sums.{failing-parts, failing-room, tallied}
 use Rattle.majority_votes.proofs.tally.Statement.{statement}
 use Rattle.majority_votes.proofs.tally.Tie as tie
 

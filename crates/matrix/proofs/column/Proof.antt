@@ -3,7 +3,7 @@ use mathlib.Core.Path.{refl}
 use Prim.Native.Nat.{_+_, _*_}
 use native.Mathlib.Omega.{arith}
 use borrow.Author.Needs.{needs}
-use Rattle.matrix.specs.Code.{entry}
+use Rattle.matrix.specs.Paper.Code.{entry}
 use Rattle.matrix.proofs.Ordered.{few, in-list, column-in, column-below}
 use Rattle.matrix.proofs.column.Statement.{statement}
 use Rattle.matrix.proofs.column.Tie as tie

@@ -3,12 +3,12 @@ use mathlib.Core.Path.{sym, _∙_}
 use native.Mathlib.Omega.{arith}
 use borrow.Author.Tests.{not-true, not-false}
 use Rattle.counting.proofs.Searches.{never}
-use Rattle.matrix.specs.Code.{Matrix}
-use Rattle.matrix.specs.Check.{sizesFit}
-use Rattle.matrix.specs.Reading.{Sizes, sizes-out, length-wrong}
-use Rattle.matrix.specs.Shapes.{matrixOf}
+use Rattle.matrix.specs.Paper.Code.{Matrix}
+use Rattle.matrix.specs.Paper.Check.{sizesFit}
+use Rattle.matrix.specs.Paper.PlainCheck.{Sizes, sizes-out, length-wrong}
+use Rattle.matrix.specs.Paper.Shapes.{matrixOf}
 use Rattle.matrix.proofs.Rows.{few-entries}
-use Rattle.matrix.proofs.Reading.{sizes-say, sizes-fit, reads-only}
+use Rattle.matrix.proofs.PlainCheck.{sizes-say, sizes-fit, reads-only}
 use borrow.Author.Needs.{needs}
 use Rattle.matrix_check.proofs.check.Statement.{statement}
 use Rattle.matrix_check.proofs.check.Tie as tie

@@ -3,14 +3,14 @@ use mathlib.Core.Path.{_≡_, _∙_}
 use native.Mathlib.Omega.{arith}
 use borrow.Author.Needs.{needs}
 use lib.ListN.{length}
-use Rattle.counting.specs.Search.{first}
+use Rattle.counting.specs.Paper.Search.{first}
 use Rattle.counting.proofs.Searches.{first-le}
-use Rattle.counting.proofs.Deciding.{found, missed}
-use Rattle.matrix.specs.Code.{Matrix}
-use Rattle.matrix.specs.Check.{badEntry, badWeight}
-use Rattle.matrix.specs.Reading.{BadEntry, BadWeight, Never, entry-bad, weight-bad, rows-overlap, fine}
-use Rattle.matrix.specs.Shapes.{matrixOf}
-use Rattle.matrix.proofs.Reading.{entries, weights, overlaps, accepts, reads-only}
+use Rattle.counting.proofs.Decisions.{found, missed}
+use Rattle.matrix.specs.Paper.Code.{Matrix}
+use Rattle.matrix.specs.Paper.Check.{badEntry, badWeight}
+use Rattle.matrix.specs.Paper.PlainCheck.{BadEntry, BadWeight, Never, entry-bad, weight-bad, rows-overlap, fine}
+use Rattle.matrix.specs.Paper.Shapes.{matrixOf}
+use Rattle.matrix.proofs.PlainCheck.{entries, weights, overlaps, accepts, reads-only}
 use Rattle.matrix.proofs.Ordered.{few}
 use Rattle.matrix.proofs.Tallies.{tally-none}
 use Rattle.matrix_weights.proofs.Weights.{tally-off}

@@ -1,10 +1,10 @@
 -- `matrix_check::first_overlap` meets its contract. Assumes nothing.
 use mathlib.Core.Path.{sym}
 use Rattle.counting.proofs.Searches.{first-none}
-use Rattle.counting.proofs.Deciding.{test-fails}
-use Rattle.matrix.specs.Check.{overlapping}
-use Rattle.matrix.specs.Shapes.{matrixOf}
-use Rattle.matrix.proofs.Reading.{overlaps}
+use Rattle.counting.proofs.Decisions.{test-fails}
+use Rattle.matrix.specs.Paper.Check.{overlapping}
+use Rattle.matrix.specs.Paper.Shapes.{matrixOf}
+use Rattle.matrix.proofs.PlainCheck.{overlaps}
 use borrow.Author.Needs.{needs}
 use Rattle.matrix_check.proofs.first_overlap.Statement.{statement}
 use Rattle.matrix_check.proofs.first_overlap.Tie as tie

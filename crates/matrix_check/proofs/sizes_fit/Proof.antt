@@ -2,7 +2,7 @@
 use mathlib.Core.Bool.{and-assoc}
 use native.Mathlib.Nat.{mul-le-mul}
 use native.Mathlib.Omega.{arith}
-use Rattle.matrix.specs.Check.{sizesFit}
+use Rattle.matrix.specs.Paper.Check.{sizesFit}
 use borrow.Author.Needs.{needs}
 use Rattle.matrix_check.proofs.sizes_fit.Statement.{statement}
 use Rattle.matrix_check.proofs.sizes_fit.Tie as tie

@@ -3,14 +3,14 @@ use Prim.Native.Nat.{_-_, _≤_}
 use mathlib.Core.Path.{sym, _∙_}
 use native.Mathlib.Nat.{le-antisymm}
 use native.Mathlib.Omega.{arith}
-use Rattle.matrix.specs.Shapes.{matrixOf}
-use Rattle.matrix_index.specs.Index.{Filled}
-use Rattle.matrix_index.proofs.Filling.{filled-none, filled-all}
+use Rattle.matrix.specs.Paper.Shapes.{matrixOf}
+use Rattle.matrix_index.specs.Index.{IndexFilled}
+use Rattle.matrix_index.proofs.Entries.{filled-none, filled-all}
 use Rattle.matrix_index.proofs.build.Statement.{statement}
 use Rattle.matrix_index.proofs.build.Tie as tie
 
 abbrev Inv-loop : tie.InvT-loop
-Inv-loop shape list index₀ m counts₀ i₀ index counts i = (i ≤ m) × Filled (matrixOf shape list) i 0 counts index
+Inv-loop shape list index₀ m counts₀ i₀ index counts i = (i ≤ m) × IndexFilled (matrixOf shape list) i 0 counts index
 
 abbrev μ-loop : tie.MeasureT-loop
 μ-loop shape list index₀ m counts₀ i₀ index counts i = m - i

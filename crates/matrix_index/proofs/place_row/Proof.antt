@@ -3,15 +3,15 @@ use Prim.Native.Nat.{_-_, _≤_}
 use mathlib.Core.Path.{sym, _∙_}
 use native.Mathlib.Nat.{le-antisymm}
 use native.Mathlib.Omega.{arith}
-use Rattle.matrix.specs.Code.{Matrix}
-use Rattle.matrix.specs.Shapes.{matrixOf}
-use Rattle.matrix_index.specs.Index.{Filled}
-use Rattle.matrix_index.proofs.Filling.{Spot, spot-of, filled-next, filled-row}
+use Rattle.matrix.specs.Paper.Code.{Matrix}
+use Rattle.matrix.specs.Paper.Shapes.{matrixOf}
+use Rattle.matrix_index.specs.Index.{IndexFilled}
+use Rattle.matrix_index.proofs.Entries.{Spot, spot-of, filled-next, filled-row}
 use Rattle.matrix_index.proofs.place_row.Statement.{statement}
 use Rattle.matrix_index.proofs.place_row.Tie as tie
 
 abbrev Inv-loop : tie.InvT-loop
-Inv-loop shape list i counts₀ index₀ rho k₀ counts index k = (k ≤ rho) × Filled (matrixOf shape list) i k counts index
+Inv-loop shape list i counts₀ index₀ rho k₀ counts index k = (k ≤ rho) × IndexFilled (matrixOf shape list) i k counts index
 
 abbrev μ-loop : tie.MeasureT-loop
 μ-loop shape list i counts₀ index₀ rho k₀ counts index k = rho - k

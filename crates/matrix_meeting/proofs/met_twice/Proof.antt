@@ -3,9 +3,9 @@ use mathlib.Core.Path.{_≡_, ap}
 use Prim.Native.Nat.{ℕ, _+_, _*_, _-_, _≤_}
 use native.Mathlib.Omega.{arith}
 use lib.ListN.{getD}
-use Rattle.matrix.specs.Code.{entry}
-use Rattle.matrix.specs.Shapes.{matrixOf}
-use Rattle.matrix_meeting.proofs.Meeting.{Gone, wordAt, gone-none, gone-more, met-once}
+use Rattle.matrix.specs.Paper.Code.{entry}
+use Rattle.matrix.specs.Paper.Shapes.{matrixOf}
+use Rattle.matrix_meeting.proofs.Marks.{Gone, wordAt, gone-none, gone-more, met-once}
 use Rattle.matrix_meeting.proofs.met_twice.Statement.{statement}
 use Rattle.matrix_meeting.proofs.met_twice.Tie as tie
 

@@ -2,7 +2,7 @@
 use mathlib.Core.Path.{_≡_}
 use Prim.Native.Nat.{_+_, _*_, _/_, _%_}
 use native.Mathlib.Omega.{arith}
-use Rattle.matrix_meeting.specs.Meeting.{bitFor}
+use Rattle.matrix_meeting.specs.Marks.{bitFor}
 use Rattle.matrix_meeting.proofs.Words.{grown, shifted}
 use borrow.Author.Needs.{needs}
 use Rattle.matrix_meeting.proofs.note.Statement.{statement}

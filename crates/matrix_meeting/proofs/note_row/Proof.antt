@@ -4,16 +4,16 @@ use Prim.Native.Nat.{ℕ, _-_, _≤_, _<_}
 use native.Mathlib.Omega.{arith}
 use borrow.Author.Count.{below-more}
 use lib.ListN.{length}
-use Rattle.matrix.specs.Code.{entry}
-use Rattle.matrix.specs.Shapes.{matrixOf}
-use Rattle.matrix_meeting.specs.Meeting.{Held, bitFor}
+use Rattle.matrix.specs.Paper.Code.{entry}
+use Rattle.matrix.specs.Paper.Shapes.{matrixOf}
+use Rattle.matrix_meeting.specs.Marks.{MarksHeld, bitFor}
 use Rattle.matrix_meeting.proofs.note_row.Statement.{statement}
 use Rattle.matrix_meeting.proofs.note_row.Tie as tie
 
 abbrev Inv-loop : tie.InvT-loop
 Inv-loop shape list part i seen₀ rho k₀ seen k =
-    (k ≤ rho) × (length seen ≡ length seen₀) × ((x : ℕ) → Held seen₀ x → Held seen x)
-    × ((q : ℕ) → q < k → Held seen (bitFor (entry (matrixOf shape list) i q) i))
+    (k ≤ rho) × (length seen ≡ length seen₀) × ((x : ℕ) → MarksHeld seen₀ x → MarksHeld seen x)
+    × ((q : ℕ) → q < k → MarksHeld seen (bitFor (entry (matrixOf shape list) i q) i))
 
 abbrev μ-loop : tie.MeasureT-loop
 μ-loop shape list part i seen₀ rho k₀ seen k = rho - k
@@ -50,8 +50,8 @@ loop-again c =
       omega arith,
       n .ensures .long ∙ l .inv .1,
       λ x h. n .ensures .kept x (l .inv .2 x h),
-      below-more (λ (q : ℕ). Held (n .last .0) (bitFor (entry H (a .i) q) (a .i))) (l .k) (λ q h. n .ensures .kept _ (l .inv .3 q h))
-          (subst (λ (x : ℕ). Held (n .last .0) (bitFor x (a .i))) (c .before .before .before .column .ensures .is) (n .ensures .here)),
+      below-more (λ (q : ℕ). MarksHeld (n .last .0) (bitFor (entry H (a .i) q) (a .i))) (l .k) (λ q h. n .ensures .kept _ (l .inv .3 q h))
+          (subst (λ (x : ℕ). MarksHeld (n .last .0) (bitFor x (a .i))) (c .before .before .before .column .ensures .is) (n .ensures .here)),
     )
 
 same-length : tie.Need-same-length Inv-loop μ-loop

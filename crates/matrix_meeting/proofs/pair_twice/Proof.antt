@@ -3,9 +3,9 @@ use Prim.Native.Nat.{ℕ, _-_, _≤_, _<_}
 use native.Mathlib.Omega.{arith}
 use borrow.Author.Count.{below-more}
 use Rattle.counting.proofs.Searches.{never}
-use Rattle.matrix.specs.Shapes.{matrixOf}
-use Rattle.matrix_meeting.specs.Meeting.{PartClear}
-use Rattle.matrix_meeting.proofs.Meeting.{parts-clear}
+use Rattle.matrix.specs.Paper.Shapes.{matrixOf}
+use Rattle.matrix_meeting.specs.Marks.{PartClear}
+use Rattle.matrix_meeting.proofs.Marks.{parts-clear}
 use Rattle.matrix_meeting.proofs.pair_twice.Statement.{statement}
 use Rattle.matrix_meeting.proofs.pair_twice.Tie as tie
 

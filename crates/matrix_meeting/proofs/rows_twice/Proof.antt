@@ -5,9 +5,9 @@ use Prim.Native.Nat.{_-_, _≤_}
 use native.Mathlib.Omega.{arith}
 use lib.ListN.{length}
 use Rattle.counting.proofs.Searches.{never}
-use Rattle.matrix.specs.Shapes.{matrixOf}
+use Rattle.matrix.specs.Paper.Shapes.{matrixOf}
 use Rattle.matrix.proofs.Ordered.{columns-ascend}
-use Rattle.matrix_meeting.proofs.Meeting.{RowsIn, ClearTo, rows-more, clear-more, part-clear}
+use Rattle.matrix_meeting.proofs.Marks.{RowsIn, ClearTo, rows-more, clear-more, part-clear}
 use Rattle.matrix_meeting.proofs.rows_twice.Statement.{statement}
 use Rattle.matrix_meeting.proofs.rows_twice.Tie as tie
 

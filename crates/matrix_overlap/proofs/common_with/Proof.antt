@@ -4,9 +4,9 @@ use Prim.Native.Nat.{ℕ, _*_, _-_, _≤_}
 use native.Mathlib.Numerals.{add-one}
 use native.Mathlib.Omega.{arith}
 use lib.ListN.{getD}
-use Rattle.counting.specs.Sum.{sum}
-use Rattle.matrix.specs.Code.{entry}
-use Rattle.matrix.specs.Shapes.{matrixOf}
+use Rattle.counting.specs.Paper.Sum.{sumBelow}
+use Rattle.matrix.specs.Paper.Code.{entry}
+use Rattle.matrix.specs.Paper.Shapes.{matrixOf}
 use Rattle.matrix.specs.Tallies.{markAt}
 use Rattle.matrix.proofs.Ordered.{column-below}
 use Rattle.matrix.proofs.Tallies.{tally-le, tally-common}
@@ -15,7 +15,7 @@ use Rattle.matrix_overlap.proofs.common_with.Tie as tie
 
 abbrev Inv-loop : tie.InvT-loop
 Inv-loop shape list i later marks rho shared₀ k₀ shared k =
-    (k ≤ rho) × (shared ≡ sum k (markAt (matrixOf shape list) later marks)) × (shared ≤ k * 32)
+    (k ≤ rho) × (shared ≡ sumBelow k (markAt (matrixOf shape list) later marks)) × (shared ≤ k * 32)
 
 abbrev μ-loop : tie.MeasureT-loop
 μ-loop shape list i later marks rho shared₀ k₀ shared k = rho - k
@@ -35,7 +35,7 @@ cast-rho : tie.Need-cast-rho Inv-loop μ-loop
 cast-rho c = omega arith
 
 loop-holds : tie.Need-loop-holds Inv-loop μ-loop
-unfolding sum
+unfolding sumBelow
 loop-holds c = (omega arith, refl, omega arith)
 
 column-requires : tie.Need-column-requires Inv-loop μ-loop
@@ -62,7 +62,7 @@ loop-less : tie.Need-loop-less Inv-loop μ-loop
 loop-less c = omega arith
 
 loop-again : tie.Need-loop-again Inv-loop μ-loop
-unfolding sum markAt
+unfolding sumBelow markAt
 loop-again c =
     let a = c .before .before .before .before .before .before .args in
     let l = c .before .before .before .loop in
@@ -75,7 +75,7 @@ returns c =
     let H = matrixOf (b .args .shape) (b .args .list .now) in
     let l = c .before .loop in
     let e : l .k ≡ b .args .shape .rho = omega arith in
-    l .inv .1 ∙ ap (λ (k : ℕ). sum k (markAt H (b .args .later) (b .args .marks .now))) e
+    l .inv .1 ∙ ap (λ (k : ℕ). sumBelow k (markAt H (b .args .later) (b .args .marks .now))) e
     ∙ tally-common H (b .args .i) (b .args .later) (b .args .marks .now) (b .pre .2) (λ k h. column-below (b .pre .0) (b .args .later) k (b .pre .1) h)
 
 pub common-with-spec : {M : Type 1} → statement M

@@ -5,8 +5,8 @@ use Prim.Native.Nat.{ℕ, _-_, _≤_, _<_}
 use native.Mathlib.Omega.{arith}
 use borrow.Author.Count.{below-more}
 use Rattle.counting.proofs.Searches.{first-none, first-at}
-use Rattle.matrix.specs.Check.{overlapping}
-use Rattle.matrix.specs.Shapes.{matrixOf}
+use Rattle.matrix.specs.Paper.Check.{overlapping}
+use Rattle.matrix.specs.Paper.Shapes.{matrixOf}
 use Rattle.matrix_overlap.proofs.exact_overlap.Statement.{statement}
 use Rattle.matrix_overlap.proofs.exact_overlap.Tie as tie
 

@@ -2,8 +2,8 @@
 use mathlib.Core.Path.{_≡_, refl, subst}
 use Prim.Native.Nat.{ℕ, _-_, _≤_}
 use native.Mathlib.Omega.{arith}
-use Rattle.matrix.specs.Code.{entry}
-use Rattle.matrix.specs.Shapes.{matrixOf}
+use Rattle.matrix.specs.Paper.Code.{entry}
+use Rattle.matrix.specs.Paper.Shapes.{matrixOf}
 use Rattle.matrix.specs.Tallies.{Tally}
 use Rattle.matrix.proofs.Tallies.{tally-none, tally-more, tally-le}
 use Rattle.matrix_overlap.proofs.marks_of.Statement.{statement}

@@ -3,10 +3,10 @@ use mathlib.Core.Path.{sym}
 use Prim.Native.Nat.{ℕ, _-_, _≤_, _<_}
 use native.Mathlib.Omega.{arith}
 use borrow.Author.Count.{below-more}
-use Rattle.counting.proofs.Deciding.{test-holds, test-fails}
-use Rattle.matrix.specs.Code.{common}
-use Rattle.matrix.specs.Shapes.{matrixOf}
-use Rattle.matrix.proofs.Reading.{overlaps}
+use Rattle.counting.proofs.Decisions.{test-holds, test-fails}
+use Rattle.matrix.specs.Paper.Code.{common}
+use Rattle.matrix.specs.Paper.Shapes.{matrixOf}
+use Rattle.matrix.proofs.PlainCheck.{overlaps}
 use Rattle.matrix_overlap.proofs.row_overlaps.Statement.{statement}
 use Rattle.matrix_overlap.proofs.row_overlaps.Tie as tie
 

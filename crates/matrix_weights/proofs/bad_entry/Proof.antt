@@ -6,7 +6,7 @@ use native.Mathlib.Nat.{zero-mod}
 use native.Mathlib.Omega.{arith}
 use borrow.Author.Tests.{le-leb, lt-leb, le-ltb, lt-ltb}
 use lib.Dec.{ltb}
-use Rattle.matrix.specs.Check.{badEntry}
+use Rattle.matrix.specs.Paper.Check.{badEntry}
 use borrow.Author.Needs.{needs}
 use Rattle.matrix_weights.proofs.bad_entry.Statement.{statement}
 use Rattle.matrix_weights.proofs.bad_entry.Tie as tie

@@ -6,7 +6,7 @@ use native.Mathlib.Omega.{arith}
 use borrow.Author.Count.{below-more}
 use borrow.Author.Tests.{eq-eqb, ne-eqb}
 use Rattle.counting.proofs.Searches.{first-none, first-at}
-use Rattle.matrix_weights.specs.Walking.{offWeight}
+use Rattle.matrix_weights.specs.Weights.{offWeight}
 use Rattle.matrix_weights.proofs.first_off_weight.Statement.{statement}
 use Rattle.matrix_weights.proofs.first_off_weight.Tie as tie
 

@@ -7,12 +7,12 @@ use native.Mathlib.Omega.{arith}
 use borrow.Author.Count.{below-more}
 use lib.ListN.{length}
 use Rattle.counting.proofs.Searches.{first-none, first-at}
-use Rattle.matrix.specs.Check.{badEntry}
-use Rattle.matrix.specs.Shapes.{matrixOf}
+use Rattle.matrix.specs.Paper.Check.{badEntry}
+use Rattle.matrix.specs.Paper.Shapes.{matrixOf}
 use Rattle.matrix.specs.Tallies.{Tally}
 use Rattle.matrix.proofs.Ordered.{few}
 use Rattle.matrix.proofs.Tallies.{tally-more, tally-le}
-use Rattle.matrix_weights.specs.Walking.{listAt}
+use Rattle.matrix_weights.specs.Weights.{listAt}
 use Rattle.matrix_weights.proofs.Weights.{good-below}
 use Rattle.matrix_weights.proofs.walk.Statement.{statement}
 use Rattle.matrix_weights.proofs.walk.Tie as tie

@@ -1,10 +1,10 @@
 -- `one_step::answered` meets its contract: the matrix check's refusal, else what follows on the accepted matrix. Assumes nothing.
 use mathlib.Core.Path.{refl, sym, ap, _∙_}
 use borrow.Author.Needs.{needs}
-use Rattle.answers.specs.Answers.{verdictOf, numberOf, placeOf}
-use Rattle.matrix.specs.Shapes.{matrixOf}
-use Rattle.matrix.proofs.Reading.{accepted-is}
-use Rattle.one_step.proofs.Answering.{refused-matrix}
+use Rattle.answers.specs.Paper.Enums.{verdictOf, numberOf, placeOf}
+use Rattle.matrix.specs.Paper.Shapes.{matrixOf}
+use Rattle.matrix.proofs.PlainCheck.{accepted-is}
+use Rattle.one_step.proofs.Calls.{refused-matrix}
 use Rattle.one_step.proofs.answered.Statement.{statement}
 use Rattle.one_step.proofs.answered.Tie as tie
 

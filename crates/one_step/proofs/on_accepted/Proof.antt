@@ -1,10 +1,10 @@
 -- `one_step::on_accepted` meets its contract: a refusal of the received word keeps the buffer, else the vote. Assumes nothing.
 use mathlib.Core.Path.{refl, sym, ap, _∙_}
 use borrow.Author.Needs.{needs}
-use Rattle.answers.specs.Answers.{verdictOf, numberOf, placeOf, reportOf}
-use Rattle.matrix.specs.Code.{Matrix}
-use Rattle.matrix.specs.Shapes.{matrixOf}
-use Rattle.one_step.proofs.Answering.{refused-word, word-lent, answered-voted}
+use Rattle.answers.specs.Paper.Enums.{verdictOf, numberOf, placeOf, reportOf}
+use Rattle.matrix.specs.Paper.Code.{Matrix}
+use Rattle.matrix.specs.Paper.Shapes.{matrixOf}
+use Rattle.one_step.proofs.Calls.{refused-word, word-lent, answered-voted}
 use Rattle.one_step.proofs.on_accepted.Statement.{statement}
 use Rattle.one_step.proofs.on_accepted.Tie as tie
 

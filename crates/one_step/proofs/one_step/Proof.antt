@@ -1,9 +1,9 @@
 -- `one_step::one_step` meets its contract: the flipping rule is a theorem on what is answered. Assumes nothing.
 use borrow.Author.Needs.{needs}
-use Rattle.answers.specs.Answers.{saidOf}
-use Rattle.matrix.specs.Code.{Matrix}
-use Rattle.matrix.specs.Shapes.{matrixOf}
-use Rattle.one_step.proofs.Answering.{answered-rule}
+use Rattle.answers.specs.Paper.Enums.{saidOf}
+use Rattle.matrix.specs.Paper.Code.{Matrix}
+use Rattle.matrix.specs.Paper.Shapes.{matrixOf}
+use Rattle.one_step.proofs.Calls.{answered-rule}
 use Rattle.one_step.proofs.one_step.Statement.{statement}
 use Rattle.one_step.proofs.one_step.Tie as tie
 

@@ -5,12 +5,12 @@ use Prim.Native.Nat.{ℕ}
 use native.Mathlib.Omega.{arith}
 use borrow.Author.Needs.{needs}
 use lib.ListN.{length, take, replicate}
-use Rattle.answers.specs.Answers.{reportOf}
-use Rattle.packed_word.specs.Packed.{bytesFor}
-use Rattle.matrix.specs.Code.{Matrix}
-use Rattle.matrix.specs.Shapes.{matrixOf}
-use Rattle.syndrome.proofs.Unpacking.{unpacked-word}
-use Rattle.one_step_core.proofs.Finishing.{stepped-bits, written-long, voted-call}
+use Rattle.answers.specs.Paper.Enums.{reportOf}
+use Rattle.packed_word.specs.Paper.Packed.{bytesFor}
+use Rattle.matrix.specs.Paper.Code.{Matrix}
+use Rattle.matrix.specs.Paper.Shapes.{matrixOf}
+use Rattle.syndrome.proofs.Unpacked.{unpacked-word}
+use Rattle.one_step_core.proofs.Results.{stepped-bits, written-long, voted-call}
 use Rattle.one_step_core.proofs.one_step_accepted.Statement.{statement}
 use Rattle.one_step_core.proofs.one_step_accepted.Tie as tie
 
@@ -39,8 +39,12 @@ pack-into-requires c κs =
     let w : List ℕ = s .args .received .now in
     let old : List ℕ = s .args .word .now in
     let u = c .before .before .before .before .unpack in
-    let v = c .before .before .vote in
-    (s .pre .matrix .sizes .n-most, s .pre .room, stepped-bits H w old (s .pre) (replicate 1023 0) (u .last .1 .1 .0) (v .last .1 .1 .0) (v .result .rounds) (v .result .failing) (u .ensures) (v .ensures))
+    let v = c .before .before .vote in (
+      s .pre .matrix .sizes .n-most,
+      s .pre .room,
+      stepped-bits H w old (s .pre) (replicate 1023 0) (u .last .1 .1 .0) (v .last .1 .1 .0)
+          (v .result .rounds) (v .result .failing) (u .ensures) (v .ensures),
+    )
 
 slice-reshare-prefix-differing : tie.Need-slice-reshare-prefix-differing
 slice-reshare-prefix-differing c = search needs
@@ -54,7 +58,8 @@ slice-aggregate-differing c =
     let u = c .before .before .before .before .before .before .before .before .unpack in
     let v = c .before .before .before .before .before .before .vote in
     let p = c .before .before .before .pack-into in
-    sym (written-long H w old (s .pre) (replicate 1023 0) (u .last .1 .1 .0) (v .last .1 .1 .0) (v .result .rounds) (v .result .failing) (u .ensures) (v .ensures) (p .last .1 .1 .0) (p .ensures))
+    sym (written-long H w old (s .pre) (replicate 1023 0) (u .last .1 .1 .0) (v .last .1 .1 .0) (v .result .rounds) (v .result .failing) (u .ensures)
+    (v .ensures) (p .last .1 .1 .0) (p .ensures))
 
 differing-requires : tie.Need-differing-requires
 differing-requires c κs =
@@ -65,7 +70,8 @@ differing-requires c κs =
     let u = c .before .before .before .before .before .before .before .before .unpack in
     let v = c .before .before .before .before .before .before .vote in
     let p = c .before .before .before .pack-into in
-    let e : length (take (bytesFor (H .n)) (p .last .1 .1 .0)) ≡ bytesFor (H .n) = written-long H w old (s .pre) (replicate 1023 0) (u .last .1 .1 .0) (v .last .1 .1 .0) (v .result .rounds) (v .result .failing) (u .ensures) (v .ensures) (p .last .1 .1 .0) (p .ensures) in
+    let e : length (take (bytesFor (H .n)) (p .last .1 .1 .0)) ≡ bytesFor (H .n) = written-long H w old (s .pre) (replicate 1023 0) (u .last .1 .1 .0)
+    (v .last .1 .1 .0) (v .result .rounds) (v .result .failing) (u .ensures) (v .ensures) (p .last .1 .1 .0) (p .ensures) in
     (e ∙ sym (s .pre .long), omega (arith, e, s .pre .matrix .sizes .n-most))
 
 ended-requires : tie.Need-ended-requires
@@ -83,7 +89,8 @@ returns c =
     let u = c .before .before .before .before .before .before .before .before .before .before .unpack in
     let v = c .before .before .before .before .before .before .before .before .vote in
     let p = c .before .before .before .before .before .pack-into in
-    voted-call H w old (s .pre) (replicate 1023 0) (u .last .1 .1 .0) (v .last .1 .1 .0) (v .result .rounds) (v .result .failing) (u .ensures) (v .ensures) (p .last .1 .1 .0) (c .before .differing .result) (reportOf (c .ended .result)) (p .ensures) (c .before .differing .ensures)
+    voted-call H w old (s .pre) (replicate 1023 0) (u .last .1 .1 .0) (v .last .1 .1 .0) (v .result .rounds) (v .result .failing) (u .ensures)
+    (v .ensures) (p .last .1 .1 .0) (c .before .differing .result) (reportOf (c .ended .result)) (p .ensures) (c .before .differing .ensures)
     (c .ended .ensures)
 
 pub one-step-accepted-spec : {M : Type 1} → statement M

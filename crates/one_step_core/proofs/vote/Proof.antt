@@ -1,8 +1,8 @@
 -- `one_step_core::vote` meets its contract: the tally, and where a check fails the flips and the count, are the definition's. Assumes nothing.
 use borrow.Author.Needs.{needs}
-use Rattle.matrix.specs.Code.{Matrix, Word}
-use Rattle.matrix.specs.Shapes.{matrixOf}
-use Rattle.one_step_core.proofs.Voting.{stepped-clean, stepped-voted, voted-bits}
+use Rattle.matrix.specs.Paper.Code.{Matrix, Word}
+use Rattle.matrix.specs.Paper.Shapes.{matrixOf}
+use Rattle.one_step_core.proofs.Votes.{stepped-clean, stepped-voted, voted-bits}
 use Rattle.one_step_core.proofs.vote.Statement.{statement}
 use Rattle.one_step_core.proofs.vote.Tie as tie
 
@@ -36,7 +36,8 @@ returns-2 c =
     let H : Matrix = matrixOf (s .args .shape) (s .args .list .now) in
     let t = c .before .before .before .before .before .before .tally in
     let f = c .before .before .flip-all in
-    stepped-voted H (s .pre .0) (s .args .bits .now) (t .last .1 .1 .1 .0) (t .result) (t .ensures) (f .last .1 .1 .0) (c .failing-count .result) (c .before .before .before .before .before .if1 .left)
+    stepped-voted H (s .pre .0) (s .args .bits .now) (t .last .1 .1 .1 .0) (t .result) (t .ensures) (f .last .1 .1 .0) (c .failing-count .result)
+    (c .before .before .before .before .before .if1 .left)
     (f .ensures) (c .failing-count .ensures)
 
 pub vote-spec : {M : Type 1} → statement M

@@ -3,7 +3,7 @@ use borrow.Author.Needs.{needs}
 use mathlib.Core.Path.{sym}
 use native.Mathlib.Omega.{arith}
 use Rattle.counting.specs.Places.{at}
-use Rattle.packed_word.proofs.Packing.{ended-in, ended-out}
+use Rattle.packed_word.proofs.Packed.{ended-in, ended-out}
 use Rattle.packed_word.proofs.bit_or_zero.Statement.{statement}
 use Rattle.packed_word.proofs.bit_or_zero.Tie as tie
 

@@ -3,7 +3,7 @@ use mathlib.Core.Path.{_≡_, ap, _∙_}
 use Prim.Native.Nat.{ℕ, _*_, _-_, _≤_}
 use native.Mathlib.Omega.{arith}
 use lib.ListN.{length}
-use Rattle.packed_word.specs.Packed.{bitAt, distance}
+use Rattle.packed_word.specs.Paper.Packed.{bitAt, distance}
 use Rattle.packed_word.proofs.Distances.{distance-le}
 use Rattle.packed_word.proofs.Counts.{distance-none, distance-more, apart-few}
 use Rattle.packed_word.proofs.differing.Statement.{statement}

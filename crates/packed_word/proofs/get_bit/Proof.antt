@@ -1,7 +1,7 @@
 -- `packed_word::get_bit` meets its contract: the shifted byte's lowest digit is the bit. Assumes nothing.
 use borrow.Author.Needs.{needs}
 use lib.Bits.{and-mask}
-use Rattle.packed_word.specs.Packed.{bitAt}
+use Rattle.packed_word.specs.Paper.Packed.{bitAt}
 use Rattle.packed_word.proofs.get_bit.Statement.{statement}
 use Rattle.packed_word.proofs.get_bit.Tie as tie
 

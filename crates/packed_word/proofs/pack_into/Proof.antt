@@ -4,11 +4,11 @@ use mathlib.Core.Path.{_≡_, refl, sym, ap, _∙_}
 use Prim.Native.Nat.{ℕ, _-_, _≤_}
 use native.Mathlib.Omega.{arith}
 use lib.ListN.{length, length-set}
-use Rattle.counting.specs.Lists.{listed, over}
+use Rattle.counting.specs.Paper.Lists.{listed, over}
 use Rattle.counting.specs.Places.{at}
-use Rattle.counting.proofs.Writing.{over-none}
-use Rattle.packed_word.specs.Packed.{bytesFor, packedByte, pack}
-use Rattle.packed_word.proofs.Storing.{over-next}
+use Rattle.counting.proofs.Writes.{over-none}
+use Rattle.packed_word.specs.Paper.Packed.{bytesFor, packedByte, pack}
+use Rattle.packed_word.proofs.Stores.{over-next}
 use Rattle.packed_word.proofs.pack_into.Statement.{statement}
 use Rattle.packed_word.proofs.pack_into.Tie as tie
 

@@ -3,8 +3,8 @@ use mathlib.Core.Path.{_≡_, ap, _∙_}
 use Prim.Native.Nat.{ℕ, _+_, _*_, _-_, _≤_}
 use native.Mathlib.Omega.{arith}
 use Rattle.counting.specs.Places.{at}
-use Rattle.packed_word.proofs.Packing.{ended-bit, ended-small}
-use Rattle.packed_word.proofs.Storing.{eight, binaryOf, binary-none, binary-more, binary-all, binary-room}
+use Rattle.packed_word.proofs.Packed.{ended-bit, ended-small}
+use Rattle.packed_word.proofs.Stores.{eight, binaryOf, binary-none, binary-more, binary-all, binary-room}
 use Rattle.packed_word.proofs.packed_byte.Statement.{statement}
 use Rattle.packed_word.proofs.packed_byte.Tie as tie
 

@@ -4,7 +4,7 @@ use mathlib.Core.Path.{_≡_}
 use Prim.Native.Nat.{ℕ, _*_, _-_, _%_, _^_}
 use native.Mathlib.Omega.{arith}
 use Rattle.packed_word.proofs.Masks.{shl-one}
-use Rattle.packed_word.proofs.Storing.{bit-set}
+use Rattle.packed_word.proofs.Stores.{bit-set}
 use Rattle.packed_word.proofs.set_bit.Statement.{statement}
 use Rattle.packed_word.proofs.set_bit.Tie as tie
 

@@ -5,13 +5,13 @@ use mathlib.Core.Path.{_≡_, sym, _∙_}
 use Prim.Native.Nat.{ℕ, _+_, _*_, _-_, _≤_}
 use native.Mathlib.Omega.{arith}
 use lib.ListN.{length}
-use Rattle.counting.specs.Search.{any}
-use Rattle.packed_word.proofs.Packing.{spareOne, spare-start, spare-found, spare-more, spare-end}
+use Rattle.counting.specs.Paper.Search.{anyBelow}
+use Rattle.packed_word.proofs.Packed.{spareOne, spare-start, spare-found, spare-more, spare-end}
 use Rattle.packed_word.proofs.spare_set.Statement.{statement}
 use Rattle.packed_word.proofs.spare_set.Tie as tie
 
 abbrev Inv-loop : tie.InvT-loop
-Inv-loop w n end left₀ left = (n + left ≤ end) × (any (spareOne n w) (end - left - n) ≡ false)
+Inv-loop w n end left₀ left = (n + left ≤ end) × (anyBelow (spareOne n w) (end - left - n) ≡ false)
 
 abbrev μ-loop : tie.MeasureT-loop
 μ-loop w n end left₀ left = left

@@ -4,7 +4,7 @@ use mathlib.Core.Path.{_≡_, subst}
 use Prim.Native.Nat.{ℕ, _-_, _≤_}
 use native.Mathlib.Omega.{arith}
 use Rattle.packed_word.specs.Steps.{Unpacked}
-use Rattle.packed_word.proofs.Storing.{unpacked-more}
+use Rattle.packed_word.proofs.Stores.{unpacked-more}
 use Rattle.packed_word.proofs.unpack_cells.Statement.{statement}
 use Rattle.packed_word.proofs.unpack_cells.Tie as tie
 

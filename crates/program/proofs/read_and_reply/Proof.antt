@@ -49,7 +49,12 @@ returns : tie.Need-returns
 returns c =
     let r = c .before .before .before .before .before .before .before .before .before .before .before .before in
     let s = c .before .before .before .before .before .before .before .before .before .before .before .before .before .before .before .before .before in
-    record { got = r .read .result; few = omega (arith, r .read .ensures .0, s .pre .want); reply = c .before .before .before .before .before .before .advance .ensures }
+    record {
+      got = r .read .result;
+      few = omega (arith, r .read .ensures .0, s .pre .want);
+      reply = c .before .before .before .before .before .before
+          .advance .ensures;
+    }
 
 pub read-and-reply-spec : {M : Type 1} → statement M
 read-and-reply-spec =

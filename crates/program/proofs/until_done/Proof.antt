@@ -2,13 +2,13 @@
 use native.Mathlib.Omega.{arith}
 use Rattle.program_ends.specs.Replies.{awaitedOf}
 use Rattle.program_ends.proofs.Stages.{rank}
-use Rattle.program.specs.Pieces.{Lent}
+use Rattle.program.specs.Pieces.{PieceLent}
 use Rattle.program.proofs.Pieces.{lent-next, rank-next}
 use Rattle.program.proofs.until_done.Statement.{statement}
 use Rattle.program.proofs.until_done.Tie as tie
 
 abbrev Inv-loop : tie.InvT-loop
-Inv-loop list₀ input₀ out₀ stage₀ want₀ list input out stage want = Lent (awaitedOf stage list) want list input out
+Inv-loop list₀ input₀ out₀ stage₀ want₀ list input out stage want = PieceLent (awaitedOf stage list) want list input out
 
 abbrev μ-loop : tie.MeasureT-loop
 μ-loop list₀ input₀ out₀ stage₀ want₀ list input out stage want = rank (awaitedOf stage list)
@@ -20,12 +20,14 @@ read-and-reply-requires : tie.Need-read-and-reply-requires Inv-loop μ-loop
 read-and-reply-requires c κs = c .before .before .before .before .loop .inv
 
 loop-less : tie.Need-loop-less Inv-loop μ-loop
-loop-less c = rank-next (c .before .before .before .before .before .before .before .before .before .before .before .loop .inv) (c .before .before .before .before .before .before .read-and-reply .ensures) (omega arith)
+loop-less c = rank-next (c .before .before .before .before .before .before .before .before .before .before .before .loop .inv)
+    (c .before .before .before .before .before .before .read-and-reply .ensures) (omega arith)
 
 loop-again : tie.Need-loop-again Inv-loop μ-loop
 loop-again c =
     let r = c .before .before .before .before .before .before .read-and-reply in
-    lent-next (c .before .before .before .before .before .before .before .before .before .before .before .loop .inv) (r .ensures) (r .kept .1 .1 .0) (r .kept .1 .1 .1 .0) (r .kept .1 .1 .1 .1 .0)
+    lent-next (c .before .before .before .before .before .before .before .before .before .before .before .loop .inv) (r .ensures) (r .kept .1 .1 .0)
+    (r .kept .1 .1 .1 .0) (r .kept .1 .1 .1 .1 .0)
 
 same-length : tie.Need-same-length Inv-loop μ-loop
 same-length c = omega arith

@@ -2,9 +2,9 @@
 use native.Mathlib.Omega.{arith}
 use borrow.Author.Needs.{needs}
 use lib.ListN.{length-take}
-use Rattle.matrix.specs.Shapes.{matrixOf}
-use Rattle.quantiser_settings.specs.Settings.{choiceOf}
-use Rattle.program_block.proofs.Printing.{line-put}
+use Rattle.matrix.specs.Paper.Shapes.{matrixOf}
+use Rattle.quantiser_settings.specs.Paper.Settings.{settingOf}
+use Rattle.program_block.proofs.Lines.{line-put}
 use Rattle.program_block.proofs.block.Statement.{statement}
 use Rattle.program_block.proofs.block.Tie as tie
 
@@ -39,7 +39,7 @@ returns c =
     let p = c .before .before in
     let d = p .before .before .before .before in
     let s = d .before .before .before .before .before .before .before in
-    line-put (matrixOf (s .args .shape) (s .args .list .now)) (choiceOf (s .args .setting)) (s .args .number) (s .args .bytes .now)
+    line-put (matrixOf (s .args .shape) (s .args .list .now)) (settingOf (s .args .setting)) (s .args .number) (s .args .bytes .now)
     (s .pre .0 .decodable .matrix .sizes .n-most) (d .decode .ensures) (p .put-block .ensures)
 
 pub block-spec : {M : Type 1} → statement M

@@ -2,10 +2,10 @@
 use mathlib.Core.Path.{sym, ap, _∙_}
 use borrow.Author.Needs.{needs}
 use lib.ListN.{length}
-use Rattle.matrix.specs.Shapes.{matrixOf}
-use Rattle.quantiser_levels.specs.Samples.{firstNotFinite}
-use Rattle.quantiser_settings.specs.Settings.{choiceOf}
-use Rattle.program_block.proofs.Answering.{samples-n, block-refuses, block-passes, all-finite, all-written, answered-refused, answered}
+use Rattle.matrix.specs.Paper.Shapes.{matrixOf}
+use Rattle.quantiser_levels.specs.Paper.Samples.{firstNotFinite}
+use Rattle.quantiser_settings.specs.Paper.Settings.{settingOf}
+use Rattle.program_block.proofs.Answers.{samples-n, block-refuses, block-passes, all-finite, all-written, answered-refused, answered}
 use Rattle.program_block.proofs.decode.Statement.{statement}
 use Rattle.program_block.proofs.decode.Tie as tie
 
@@ -25,7 +25,8 @@ returns : tie.Need-returns
 returns c =
     let p = c .before .before in
     let s = p .before .before .before .before .before .before .before in
-    answered-refused (matrixOf (s .args .shape) (s .args .list .now)) (choiceOf (s .args .setting)) (s .args .bytes .now) (p .samples .result) (s .args .word .now)
+    answered-refused (matrixOf (s .args .shape) (s .args .list .now)) (settingOf (s .args .setting)) (s .args .bytes .now) (p .samples .result)
+    (s .args .word .now)
     (block-refuses (s .args .shape .n) (s .args .bytes .now) (s .pre .0 .bytes) (p .samples .result) (p .samples .ensures .place) (c .if1 .taken))
 
 array-share-prefix-xs : tie.Need-array-share-prefix-xs
@@ -36,7 +37,8 @@ slice-aggregate-iterative-accepted c =
     let p = c .before .before .before in
     let s = p .before .before .before .before .before .before .before in
     let n = s .args .shape .n in
-    sym (ap length (all-written n (s .args .bytes .now) (s .pre .0 .bytes) (p .samples .result) (p .samples .ensures) (c .before .if1 .left)) ∙ samples-n n (s .args .bytes .now) (s .pre .0 .bytes))
+    sym (ap length (all-written n (s .args .bytes .now) (s .pre .0 .bytes) (p .samples .result) (p .samples .ensures) (c .before .if1 .left))
+    ∙ samples-n n (s .args .bytes .now) (s .pre .0 .bytes))
 
 slice-aggregate-iterative-accepted-2 : tie.Need-slice-aggregate-iterative-accepted-2
 slice-aggregate-iterative-accepted-2 c = search needs
@@ -53,7 +55,8 @@ iterative-accepted-requires c κs =
         matrix = s .pre .0 .decodable .matrix;
         setting = s .pre .0 .decodable .setting;
         samples = ap length w ∙ samples-n n bs (s .pre .0 .bytes);
-        finite = ap firstNotFinite w ∙ all-finite n bs (s .pre .0 .bytes) (p .samples .result) (p .samples .ensures .place) (e .if1 .left) ∙ sym (ap length w);
+        each-finite = ap firstNotFinite w ∙ all-finite n bs (s .pre .0 .bytes) (p .samples .result) (p .samples .ensures .place) (e .if1 .left)
+            ∙ sym (ap length w);
         room-word = s .pre .0 .room;
         room-levels = s .pre .0 .decodable .matrix .sizes .n-most;
       },
@@ -71,7 +74,7 @@ returns-2 c =
     let s = p .before .before .before .before .before .before .before in
     let n = s .args .shape .n in
     let bs = s .args .bytes .now in
-    answered (matrixOf (s .args .shape) (s .args .list .now)) (choiceOf (s .args .setting)) bs
+    answered (matrixOf (s .args .shape) (s .args .list .now)) (settingOf (s .args .setting)) bs
     (block-passes n bs (s .pre .0 .bytes) (p .samples .result) (p .samples .ensures .place) (e .if1 .left))
     (all-written n bs (s .pre .0 .bytes) (p .samples .result) (p .samples .ensures) (e .if1 .left))
     (d .iterative-accepted .ensures)

@@ -20,7 +20,8 @@ enum-known-stage-2 : tie.Need-enum-known-stage-2
 enum-known-stage-2 c = search needs
 
 after-setting-requires : tie.Need-after-setting-requires
-after-setting-requires c κs = asked-at (c .before .before .before .stage2 .given .1) _ _ (c .before .before .before .before .before .before .before .before .pre)
+after-setting-requires c κs = asked-at (c .before .before .before .stage2 .given .1) _ _
+    (c .before .before .before .before .before .before .before .before .pre)
 
 enum-known-stage-3 : tie.Need-enum-known-stage-3
 enum-known-stage-3 c = search needs
@@ -51,7 +52,8 @@ same-length-3 c = search needs
 returns-2 : tie.Need-returns-2
 returns-2 c =
     let s = c .before .before .before .before .before .before .before .before .before .before .before .before .before in
-    replied-at (c .before .before .before .before .before .before .before .before .stage .given .1) (s .args .list .now) (s .args .bytes .now) (c .before .before .before .before .after-list .ensures)
+    replied-at (c .before .before .before .before .before .before .before .before .stage .given .1) (s .args .list .now) (s .args .bytes .now)
+    (c .before .before .before .before .after-list .ensures)
 
 same-length-4 : tie.Need-same-length-4
 same-length-4 c = search needs
@@ -62,7 +64,8 @@ same-length-5 c = search needs
 returns-3 : tie.Need-returns-3
 returns-3 c =
     let s = c .before .before .before .before .before .before .before .before .before .before .before in
-    replied-at (c .before .before .before .before .before .before .stage2 .given .1) (s .args .list .now) (s .args .bytes .now) (c .before .before .after-setting .ensures)
+    replied-at (c .before .before .before .before .before .before .stage2 .given .1) (s .args .list .now) (s .args .bytes .now)
+    (c .before .before .after-setting .ensures)
 
 same-length-6 : tie.Need-same-length-6
 same-length-6 c = search needs
@@ -73,7 +76,8 @@ same-length-7 c = search needs
 returns-4 : tie.Need-returns-4
 returns-4 c =
     let s = c .before .before .before .before .before .before .before .before .before .before .before in
-    replied-at (c .before .before .before .before .before .before .stage3 .given .1) (s .args .list .now) (s .args .bytes .now) (c .before .before .after-blocks .ensures)
+    replied-at (c .before .before .before .before .before .before .stage3 .given .1) (s .args .list .now) (s .args .bytes .now)
+    (c .before .before .after-blocks .ensures)
 
 same-length-8 : tie.Need-same-length-8
 same-length-8 c = search needs

@@ -1,16 +1,16 @@
 -- `program_ends::after_blocks` meets its contract. Assumes nothing.
-use mathlib.Core.Path.{_≡_, refl, sym, ap, _∙_, subst}
+use mathlib.Core.Path.{_≡_, sym, ap, _∙_, subst}
 use Prim.Native.Nat.{ℕ, _+_, _*_, _≤_}
 use native.Mathlib.Omega.{arith}
 use lib.ListN.{length, take}
 use lib.Seq.{length-take-le}
-use Rattle.matrix.specs.Shapes.{matrixOf}
+use Rattle.matrix.specs.Paper.Shapes.{matrixOf}
 use Rattle.matrix.proofs.Rows.{few-entries}
-use Rattle.quantiser_settings.specs.Settings.{choiceOf}
+use Rattle.quantiser_settings.specs.Paper.Settings.{settingOf}
 use Rattle.program_turns.specs.Turns.{bytesAtOnce}
-use Rattle.program_lines.specs.Lending.{Countable}
-use Rattle.program_lines.specs.Blocks.{chunkText}
-use Rattle.program_lines.proofs.Lining.{chunk-ends}
+use Rattle.program_lines.specs.Loans.{Countable}
+use Rattle.program_lines.specs.Paper.Blocks.{chunkText}
+use Rattle.program_lines.proofs.BlockLines.{chunk-ends}
 use Rattle.program_ends.specs.Stages.{blocksFrom, ends}
 use Rattle.program_ends.proofs.Replies.{text-alone, replied-as, countable, blocks-last, blocks-more}
 use borrow.Author.Needs.{needs}
@@ -45,7 +45,7 @@ chunk-requires c κs =
     let e = c .before .before in
     let s = c .before .before .before .before .before .before .before .before in
     let i = s .args .number in
-    let S = choiceOf (s .args .setting) in
+    let S = settingOf (s .args .setting) in
     let list = s .args .list .now in
     let bs = s .args .bytes .now in
     let H = matrixOf (s .args .shape) (take (s .args .shape .m * s .args .shape .rho) list) in
@@ -61,7 +61,7 @@ ended-requires c κs =
     let e = k .before .before .before in
     let s = c .before .before .before .before .before .before .before .before .before .before .before .before .before in
     let i = s .args .number in
-    let S = choiceOf (s .args .setting) in
+    let S = settingOf (s .args .setting) in
     let list = s .args .list .now in
     let bs = s .args .bytes .now in
     let H = matrixOf (s .args .shape) (take (s .args .shape .m * s .args .shape .rho) list) in
@@ -80,7 +80,7 @@ returns c =
     let e = k .before .before .before in
     let s = c .before .before .before .before .before .before .before .before .before .before .before .before .before .before in
     let i = s .args .number in
-    let S = choiceOf (s .args .setting) in
+    let S = settingOf (s .args .setting) in
     let list = s .args .list .now in
     let bs = s .args .bytes .now in
     let H = matrixOf (s .args .shape) (take (s .args .shape .m * s .args .shape .rho) list) in
@@ -111,7 +111,7 @@ returns-2 c =
     let e = k .before .before .before in
     let s = c .before .before .before .before .before .before .before .before .before .before .before .before .before in
     let i = s .args .number in
-    let S = choiceOf (s .args .setting) in
+    let S = settingOf (s .args .setting) in
     let list = s .args .list .now in
     let bs = s .args .bytes .now in
     let H = matrixOf (s .args .shape) (take (s .args .shape .m * s .args .shape .rho) list) in

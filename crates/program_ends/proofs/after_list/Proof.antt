@@ -4,9 +4,9 @@ use mathlib.Core.List.{List, []}
 use Prim.Native.Nat.{_*_}
 use native.Mathlib.Omega.{arith}
 use lib.ListN.{length}
-use Rattle.matrix.specs.Shapes.{matrixOf}
+use Rattle.matrix.specs.Paper.Shapes.{matrixOf}
 use Rattle.program_input.proofs.Openings.{few}
-use Rattle.program_ends.specs.Stages.{theSetting, ends, goesOn}
+use Rattle.program_ends.specs.Stages.{theSetting, ends}
 use Rattle.program_ends.proofs.Replies.{text-alone, replied-as, list-short, list-whole, entries-front}
 use borrow.Author.Needs.{needs}
 use Rattle.program_ends.proofs.after_list.Statement.{statement}
@@ -34,7 +34,8 @@ returns c =
     let p = c .before .before .before .before in
     let s = p .before .before .before .before .before .before .before in
     let H = matrixOf (s .args .shape) [] in
-    replied-as (ap ends (text-alone (p .put-short .ensures) (omega (arith, s .pre .room))) ∙ list-short H (s .args .bytes .now) (omega arith)) (c .ended .ensures _)
+    replied-as (ap ends (text-alone (p .put-short .ensures) (omega (arith, s .pre .room))) ∙ list-short H (s .args .bytes .now) (omega arith))
+    (c .ended .ensures _)
 
 entries-requires-2 : tie.Need-entries-requires-2
 entries-requires-2 c κs =
@@ -52,7 +53,8 @@ returns-2 c =
     let whole : length bs ≡ 2 * (H .m * H .rho) = omega (arith, s .pre .came) in
     replied-as (list-whole H bs (omega arith))
     (record {
-      awaited = ap (λ (l : List _). theSetting (matrixOf (s .args .shape) l)) (entries-front (H .m * H .rho) bs (s .args .list .now) (c .before .before .entries2 .ensures) whole);
+      awaited = ap (λ (l : List _). theSetting (matrixOf (s .args .shape) l))
+          (entries-front (H .m * H .rho) bs (s .args .list .now) (c .before .before .entries2 .ensures) whole);
       want = refl;
       text = refl;
       fits = omega arith;

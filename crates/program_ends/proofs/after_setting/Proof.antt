@@ -1,12 +1,12 @@
 -- `program_ends::after_setting` meets its contract. Assumes nothing.
-use mathlib.Core.Path.{_≡_, refl, sym, ap, _∙_}
+use mathlib.Core.Path.{sym, ap, _∙_}
 use Prim.Native.Nat.{ℕ, _*_}
 use native.Mathlib.Omega.{arith}
 use lib.ListN.{take}
 use lib.Seq.{length-take-le}
-use Rattle.matrix.specs.Shapes.{matrixOf}
-use Rattle.program_input.specs.Input.{choiceIn}
-use Rattle.program_input.specs.Opening.{opening, openingVerdict}
+use Rattle.matrix.specs.Paper.Shapes.{matrixOf}
+use Rattle.program_input.specs.Paper.Input.{settingIn}
+use Rattle.program_input.specs.Paper.Opening.{opening, openingVerdict}
 use Rattle.program_input.specs.Runs.{openedOf}
 use Rattle.program_input.proofs.Openings.{decodable}
 use Rattle.program_ends.specs.Stages.{ends}
@@ -29,7 +29,8 @@ returns c =
     let p = c .before .before .before .before in
     let s = p .before .before .before .before .before .before in
     let H = matrixOf (s .args .shape) (take (s .args .shape .m * s .args .shape .rho) (s .args .list .now)) in
-    replied-as (ap ends (text-alone (p .put-short .ensures) (omega (arith, s .pre .room))) ∙ setting-short H (s .args .bytes .now) (omega arith)) (c .ended .ensures _)
+    replied-as (ap ends (text-alone (p .put-short .ensures) (omega (arith, s .pre .room))) ∙ setting-short H (s .args .bytes .now) (omega arith))
+    (c .ended .ensures _)
 
 entries-requires : tie.Need-entries-requires
 entries-requires c κs = search needs
@@ -50,7 +51,8 @@ at-blocks-requires c κs =
     let b = c .before .before .before in
     let s = c .before .before .before .before .before .before .before .before .before .before in
     let n = b .before .before .entries .result in
-    let d = decodable (matrixOf (s .args .shape) (take n (s .args .list .now))) (choiceIn (s .args .bytes .now)) _ (b .begin .ensures) (ap openedOf (c .before .opened .given .1)) in
+    let d = decodable (matrixOf (s .args .shape) (take n (s .args .list .now))) (settingIn (s .args .bytes .now)) _ (b .begin .ensures)
+    (ap openedOf (c .before .opened .given .1)) in
     (d .matrix .sizes .n-least, d .matrix .sizes .n-most)
 
 enum-known-opened-2 : tie.Need-enum-known-opened-2
@@ -67,7 +69,7 @@ returns-2 c =
     let o = c .before in
     let b = o .before .before .before in
     let s = c .before .before .before .before .before .before .before .before .before .before .before in
-    let S = choiceIn (s .args .bytes .now) in
+    let S = settingIn (s .args .bytes .now) in
     let list = s .args .list .now in
     let k = s .args .shape .m * s .args .shape .rho in
     let H = matrixOf (s .args .shape) (take k list) in
@@ -89,7 +91,7 @@ returns-3 c =
     let o = p .before .before in
     let b = o .before .before .before in
     let s = c .before .before .before .before .before .before .before .before .before .before .before .before .before .before .before .before in
-    let S = choiceIn (s .args .bytes .now) in
+    let S = settingIn (s .args .bytes .now) in
     let list = s .args .list .now in
     let k = s .args .shape .m * s .args .shape .rho in
     let H = matrixOf (s .args .shape) (take k list) in

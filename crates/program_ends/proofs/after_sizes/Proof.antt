@@ -1,15 +1,14 @@
 -- `program_ends::after_sizes` meets its contract. Assumes nothing.
-use mathlib.Core.Path.{_≡_, refl, sym, ap, _∙_}
-use mathlib.Core.Bool.{false}
+use mathlib.Core.Path.{refl, sym, ap, _∙_}
 use mathlib.Core.List.{List, []}
 use Prim.Native.Nat.{ℕ, _*_}
 use native.Mathlib.Omega.{arith}
 use borrow.Author.Tests.{not-true, not-false}
-use Rattle.matrix.specs.Code.{Matrix}
-use Rattle.matrix.specs.Check.{sizesFit}
-use Rattle.matrix.specs.Shapes.{matrixOf}
+use Rattle.matrix.specs.Paper.Code.{Matrix}
+use Rattle.matrix.specs.Paper.Check.{sizesFit}
+use Rattle.matrix.specs.Paper.Shapes.{matrixOf}
 use Rattle.program_input.proofs.Openings.{few}
-use Rattle.program_ends.specs.Stages.{ends, theList, goesOn, wanted}
+use Rattle.program_ends.specs.Stages.{ends, theList, goesOn}
 use Rattle.program_ends.proofs.Replies.{text-alone, replied-as, sizes-short, sizes-refused, sizes-fit}
 use borrow.Author.Needs.{needs}
 use Rattle.program_ends.proofs.after_sizes.Statement.{statement}
@@ -60,7 +59,8 @@ entries-requires c κs =
 
 mul-want : tie.Need-mul-want
 mul-want c =
-    let f = few (matrixOf (c .before .before .before .sizes .result) []) (not-false _ (sym (c .before .before .sizes-refused .ensures) ∙ c .before .if2 .left)) in
+    let f = few (matrixOf (c .before .before .before .sizes .result) [])
+    (not-false _ (sym (c .before .before .sizes-refused .ensures) ∙ c .before .if2 .left)) in
     omega (arith, c .entries .ensures)
 
 returns-3 : tie.Need-returns-3

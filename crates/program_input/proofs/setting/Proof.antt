@@ -6,13 +6,13 @@ use borrow.Author.Tests.{not-true, not-false}
 use borrow.Author.Needs.{needs}
 use lib.Ieee.{binary32, ofBits}
 use lib.Ieee.Scale.{finite}
-use Rattle.quantiser_settings.specs.Settings.{kindOf, stepOf}
-use Rattle.quantiser_levels.specs.Samples.{settingFits}
-use Rattle.byte_numbers.specs.Numbers.{float}
+use Rattle.quantiser_settings.specs.Paper.Settings.{kindOf, floatOf}
+use Rattle.quantiser_levels.specs.Paper.Samples.{settingFits}
+use Rattle.byte_numbers.specs.Paper.Numbers.{float}
 use Rattle.byte_numbers.proofs.Patterns.{no-nan}
-use Rattle.program_input.specs.Input.{choiceIn}
-use Rattle.program_input.specs.Opening.{openWith}
-use Rattle.program_input.proofs.Settings.{choice, choice-is, kind-unfit, float-unfit, begins-refused, begins-ready}
+use Rattle.program_input.specs.Paper.Input.{settingIn}
+use Rattle.program_input.specs.Paper.Opening.{openWith}
+use Rattle.program_input.proofs.Settings.{settingBy, choice-is, kind-unfit, float-unfit, begins-refused, begins-ready}
 use Rattle.program_input.proofs.setting.Statement.{statement}
 use Rattle.program_input.proofs.setting.Tie as tie
 
@@ -23,22 +23,22 @@ number32-requires : tie.Need-number32-requires
 number32-requires c κs = search needs
 
 returns : tie.Need-returns
-unfolding choiceIn
+unfolding settingIn
 returns c =
     let bs = c .before .before .before .before .args .bytes .now in
-    begins-refused (choiceIn bs) (kind-unfit (choiceIn bs) (c .if1 .taken))
+    begins-refused (settingIn bs) (kind-unfit (settingIn bs) (c .if1 .taken))
 
 finite-pattern-requires : tie.Need-finite-pattern-requires
 finite-pattern-requires c κs = search needs
 
 returns-2 : tie.Need-returns-2
-unfolding choiceIn float
+unfolding settingIn float
 returns-2 c =
     let n = c .before .before .before in
     let bs = n .before .before .before .args .bytes .now in
     let off : finite (float bs 3) ≡ false =
     ap (λ (p : ℕ). finite (ofBits binary32 p)) (sym (n .number32 .ensures)) ∙ sym (c .before .finite-pattern .ensures) ∙ not-true _ (c .if2 .taken) in
-    begins-refused (choiceIn bs) (float-unfit (choiceIn bs) off)
+    begins-refused (settingIn bs) (float-unfit (settingIn bs) off)
 
 shared-slice-read-wide : tie.Need-shared-slice-read-wide
 shared-slice-read-wide c = search needs
@@ -70,9 +70,11 @@ returns-3 c =
     let n = f .before .before .before .before .before .before .before .before .before in
     let bs = n .before .before .before .args .bytes .now in
     let k = f .before .step-by in
-    let e : choice (f .before .before .before .before .wide .result) (f .before .before .wide2 .result) (kindOf (k .result)) (stepOf (k .result)) ≡ choiceIn bs =
-    choice-is bs (f .before .before .before .before .wide .ensures .0) (f .before .before .wide2 .ensures .0) (k .ensures .0) (k .ensures .1 ∙ ap (ofBits binary32) (n .number32 .ensures)) in
-    ap openWith e ∙ begins-ready (choiceIn bs) (sym (ap settingFits e) ∙ sym (f .setting-fits .ensures) ∙ c .if3 .taken)
+    let e : settingBy (f .before .before .before .before .wide .result) (f .before .before .wide2 .result) (kindOf (k .result))
+    (floatOf (k .result)) ≡ settingIn bs =
+    choice-is bs (f .before .before .before .before .wide .ensures .0) (f .before .before .wide2 .ensures .0) (k .ensures .0)
+    (k .ensures .1 ∙ ap (ofBits binary32) (n .number32 .ensures)) in
+    ap openWith e ∙ begins-ready (settingIn bs) (sym (ap settingFits e) ∙ sym (f .setting-fits .ensures) ∙ c .if3 .taken)
 
 returns-4 : tie.Need-returns-4
 unfolding float
@@ -81,9 +83,11 @@ returns-4 c =
     let n = f .before .before .before .before .before .before .before .before .before in
     let bs = n .before .before .before .args .bytes .now in
     let k = f .before .step-by in
-    let e : choice (f .before .before .before .before .wide .result) (f .before .before .wide2 .result) (kindOf (k .result)) (stepOf (k .result)) ≡ choiceIn bs =
-    choice-is bs (f .before .before .before .before .wide .ensures .0) (f .before .before .wide2 .ensures .0) (k .ensures .0) (k .ensures .1 ∙ ap (ofBits binary32) (n .number32 .ensures)) in
-    begins-refused (choiceIn bs) (sym (ap settingFits e) ∙ sym (f .setting-fits .ensures) ∙ c .if3 .left)
+    let e : settingBy (f .before .before .before .before .wide .result) (f .before .before .wide2 .result) (kindOf (k .result))
+    (floatOf (k .result)) ≡ settingIn bs =
+    choice-is bs (f .before .before .before .before .wide .ensures .0) (f .before .before .wide2 .ensures .0) (k .ensures .0)
+    (k .ensures .1 ∙ ap (ofBits binary32) (n .number32 .ensures)) in
+    begins-refused (settingIn bs) (sym (ap settingFits e) ∙ sym (f .setting-fits .ensures) ∙ c .if3 .left)
 
 pub setting-spec : {M : Type 1} → statement M
 setting-spec =

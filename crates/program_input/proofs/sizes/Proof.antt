@@ -1,6 +1,6 @@
 -- `program_input::sizes` meets its contract. Assumes nothing.
 use borrow.Author.Needs.{needs}
-use Rattle.program_input.specs.Input.{matrixIn}
+use Rattle.program_input.specs.Paper.Input.{matrixIn}
 use Rattle.program_input.proofs.sizes.Statement.{statement}
 use Rattle.program_input.proofs.sizes.Tie as tie
 

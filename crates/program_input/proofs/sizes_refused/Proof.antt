@@ -4,10 +4,10 @@ use mathlib.Core.List.{[]}
 use Prim.Native.Nat.{ℕ}
 use borrow.Author.Needs.{needs}
 use lib.Dec.{eqb}
-use Rattle.answers.specs.Paper.{Verdict}
-use Rattle.answers.specs.Answers.{verdictOf}
+use Rattle.answers.specs.Paper.Answers.{Verdict}
+use Rattle.answers.specs.Paper.Enums.{verdictOf}
 use Rattle.answers.specs.declared.Checked.{Checked}
-use Rattle.matrix.specs.Shapes.{matrixOf}
+use Rattle.matrix.specs.Paper.Shapes.{matrixOf}
 use Rattle.program_input.proofs.Openings.{numberIn, sizes-alone}
 use Rattle.program_input.proofs.sizes_refused.Statement.{statement}
 use Rattle.program_input.proofs.sizes_refused.Tie as tie
@@ -34,7 +34,8 @@ returns : tie.Need-returns
 returns c =
     let k = c .before .before in
     let H = matrixOf (k .before .before .args .shape) [] in
-    ap (λ (a : Checked). eqb (numberIn (verdictOf a)) 1) (sym (c .enum-told .given .1)) ∙ ap (λ (v : Verdict). eqb (numberIn v) 1) (k .check .ensures) ∙ sizes-alone H refl
+    ap (λ (a : Checked). eqb (numberIn (verdictOf a)) 1) (sym (c .enum-told .given .1)) ∙ ap (λ (v : Verdict). eqb (numberIn v) 1) (k .check .ensures)
+    ∙ sizes-alone H refl
 
 returns-2 : tie.Need-returns-2
 returns-2 c =

@@ -1,8 +1,8 @@
 -- `program_lines::chunk` meets its contract: the lines, and `short` unless the bytes end with a block. Assumes nothing.
 use borrow.Author.Needs.{needs}
-use Rattle.matrix.specs.Shapes.{matrixOf}
-use Rattle.quantiser_settings.specs.Settings.{choiceOf}
-use Rattle.program_lines.proofs.Lining.{chunk-whole, chunk-cut}
+use Rattle.matrix.specs.Paper.Shapes.{matrixOf}
+use Rattle.quantiser_settings.specs.Paper.Settings.{settingOf}
+use Rattle.program_lines.proofs.BlockLines.{chunk-whole, chunk-cut}
 use Rattle.program_lines.proofs.chunk.Statement.{statement}
 use Rattle.program_lines.proofs.chunk.Tie as tie
 
@@ -25,7 +25,8 @@ returns : tie.Need-returns
 returns c =
     let p = c .before .before .before in
     let s = p .before .before .before .before .before .before in
-    chunk-whole (matrixOf (s .args .shape) (s .args .list .now)) (choiceOf (s .args .setting)) (s .args .number) (s .args .bytes .now) (s .args .at) (s .args .out .now)
+    chunk-whole (matrixOf (s .args .shape) (s .args .list .now)) (settingOf (s .args .setting)) (s .args .number) (s .args .bytes .now) (s .args .at)
+    (s .args .out .now)
     (c .if1 .taken) (p .all-lines .ensures)
 
 put-short-requires : tie.Need-put-short-requires
@@ -39,7 +40,8 @@ returns-2 c =
     let q = c .before .before in
     let p = q .before .before .before .before .before in
     let s = p .before .before .before .before .before .before in
-    chunk-cut (matrixOf (s .args .shape) (s .args .list .now)) (choiceOf (s .args .setting)) (s .args .number) (s .args .bytes .now) (s .args .at) (s .args .out .now)
+    chunk-cut (matrixOf (s .args .shape) (s .args .list .now)) (settingOf (s .args .setting)) (s .args .number) (s .args .bytes .now) (s .args .at)
+    (s .args .out .now)
     (q .before .before .if1 .left) (p .all-lines .ensures) (q .put-short .ensures)
 
 pub chunk-spec : {M : Type 1} → statement M

@@ -2,15 +2,16 @@
 use Prim.Native.Nat.{_-_}
 use native.Mathlib.Omega.{arith}
 use lib.ListN.{length}
-use Rattle.matrix.specs.Shapes.{matrixOf}
-use Rattle.quantiser_settings.specs.Settings.{choiceOf}
+use Rattle.matrix.specs.Paper.Shapes.{matrixOf}
+use Rattle.quantiser_settings.specs.Paper.Settings.{settingOf}
 use Rattle.program_numerals.proofs.Puts.{put-length}
-use Rattle.program_lines.proofs.Lining.{Lined, lined-none, counted, lined-asks, lined-more, lined-all}
+use Rattle.program_lines.proofs.BlockLines.{Lined, lined-none, counted, lined-asks, lined-more, lined-all}
 use Rattle.program_lines.proofs.lines.Statement.{statement}
 use Rattle.program_lines.proofs.lines.Tie as tie
 
 abbrev Inv-loop : tie.InvT-loop
-Inv-loop shape list index setting number bytes out₀ at size k₀ from₀ end₀ out k from end = Lined (matrixOf shape list) (choiceOf setting) number bytes at out₀ k from out end
+Inv-loop shape list index setting number bytes out₀ at size k₀ from₀ end₀ out k from end = Lined (matrixOf shape list)
+    (settingOf setting) number bytes at out₀ k from out end
 
 abbrev μ-loop : tie.MeasureT-loop
 μ-loop shape list index setting number bytes out₀ at size k₀ from₀ end₀ out k from end = length bytes - from
@@ -24,7 +25,8 @@ mul-size c = omega (arith, c .before .before .before .before .before .pre .0 .de
 loop-holds : tie.Need-loop-holds Inv-loop μ-loop
 loop-holds c =
     let s = c .before .before .before .before .before in
-    lined-none (matrixOf (s .args .shape) (s .args .list .now)) (choiceOf (s .args .setting)) (s .args .number) (s .args .bytes .now) (s .args .at) (s .args .out .now)
+    lined-none (matrixOf (s .args .shape) (s .args .list .now)) (settingOf (s .args .setting)) (s .args .number) (s .args .bytes .now) (s .args .at)
+    (s .args .out .now)
 
 sub-loop : tie.Need-sub-loop Inv-loop μ-loop
 sub-loop c = c .loop .inv .inside
@@ -37,8 +39,13 @@ add-block c =
     let l = c .before in
     let s = l .before .before .before .before .before .before in
     let H = matrixOf (s .args .shape) (s .args .list .now) in
-    let S = choiceOf (s .args .setting) in
-    omega (arith, s .pre .0 .numbers, counted H S (s .args .number) (s .args .bytes .now) (s .args .at) (s .args .out .now) (s .pre .0) (l .loop .inv) (c .loop-test .taken))
+    let S = settingOf (s .args .setting) in
+    omega (
+      arith,
+      s .pre .0 .numbers,
+      counted H S (s .args .number) (s .args .bytes .now) (s .args .at) (s .args .out .now) (s .pre .0) (l .loop .inv)
+          (c .loop-test .taken),
+    )
 
 sub-block : tie.Need-sub-block Inv-loop μ-loop
 sub-block c = omega arith
@@ -54,29 +61,44 @@ block-requires c κs =
     let l = c .before .before .before in
     let s = l .before .before .before .before .before .before in
     let H = matrixOf (s .args .shape) (s .args .list .now) in
-    let S = choiceOf (s .args .setting) in
-    (lined-asks H S (s .args .number) (s .args .bytes .now) (s .args .at) (s .args .out .now) (s .pre .0) (l .loop .inv) (c .before .before .loop-test .taken), s .pre .1)
+    let S = settingOf (s .args .setting) in (
+      lined-asks H S (s .args .number) (s .args .bytes .now) (s .args .at) (s .args .out .now) (s .pre .0) (l .loop .inv)
+          (c .before .before .loop-test .taken),
+      s .pre .1,
+    )
 
 add-k : tie.Need-add-k Inv-loop μ-loop
 add-k c =
     let l = c .before .before .before .before .before .before in
     let s = l .before .before .before .before .before .before in
     let H = matrixOf (s .args .shape) (s .args .list .now) in
-    let S = choiceOf (s .args .setting) in
-    omega (arith, s .pre .0 .numbers, counted H S (s .args .number) (s .args .bytes .now) (s .args .at) (s .args .out .now) (s .pre .0) (l .loop .inv) (c .before .before .before .before .before .loop-test .taken))
+    let S = settingOf (s .args .setting) in
+    omega (
+      arith,
+      s .pre .0 .numbers,
+      counted H S (s .args .number) (s .args .bytes .now) (s .args .at) (s .args .out .now) (s .pre .0) (l .loop .inv)
+          (c .before .before .before .before .before .loop-test .taken),
+    )
 
 loop-less : tie.Need-loop-less Inv-loop μ-loop
 loop-less c =
     let l = c .before .before .before .before .before .before in
-    omega (arith, l .loop .inv .inside, l .before .before .before .before .before .before .pre .0 .decodable .matrix .sizes .n-least, c .before .before .before .before .before .loop-test .taken)
+    omega (
+      arith,
+      l .loop .inv .inside,
+      l .before .before .before .before .before .before .pre .0 .decodable .matrix .sizes .n-least,
+      c .before .before
+          .before .before .before .loop-test .taken,
+    )
 
 loop-again : tie.Need-loop-again Inv-loop μ-loop
 loop-again c =
     let l = c .before .before .before .before .before .before in
     let s = l .before .before .before .before .before .before in
     let H = matrixOf (s .args .shape) (s .args .list .now) in
-    let S = choiceOf (s .args .setting) in
-    lined-more H S (s .args .number) (s .args .bytes .now) (s .args .at) (s .args .out .now) (s .pre .0) (l .loop .inv) (c .before .before .before .before .before .loop-test .taken) (c .before .before .block .ensures)
+    let S = settingOf (s .args .setting) in
+    lined-more H S (s .args .number) (s .args .bytes .now) (s .args .at) (s .args .out .now) (s .pre .0) (l .loop .inv)
+    (c .before .before .before .before .before .loop-test .taken) (c .before .before .block .ensures)
 
 same-length : tie.Need-same-length Inv-loop μ-loop
 same-length c = put-length (c .before .loop .inv .put .put)
@@ -86,7 +108,7 @@ returns c =
     let l = c .before in
     let s = l .before .before .before .before .before .before in
     let H = matrixOf (s .args .shape) (s .args .list .now) in
-    let S = choiceOf (s .args .setting) in
+    let S = settingOf (s .args .setting) in
     lined-all H S (s .args .number) (s .args .bytes .now) (s .args .at) (s .args .out .now) (s .pre .0) (l .loop .inv) (c .loop-test .left)
 
 pub lines-spec : {M : Type 1} → statement M

@@ -8,7 +8,7 @@ use borrow.Fn.PlainCycle.{Measures, is, falls, and}
 use lib.ListN.{length}
 use Rattle.program_numerals.proofs.Numerals.{decimal-one, decimal-more, length-decimal-more}
 use Rattle.program_numerals.proofs.Puts.{put-then, put-as, put-length}
-use Rattle.program_numerals.specs.Numerals.{digit}
+use Rattle.program_numerals.specs.Paper.Numerals.{digit}
 use Rattle.program_numerals.proofs.put_decimal.Reads as put-decimal
 use Rattle.program_numerals.proofs.put_decimal.Kinds as put-decimal-kinds
 use Rattle.program_numerals.proofs.+put_decimal.Lts-put_decimal as put-decimal-lts
@@ -77,7 +77,14 @@ put-decimal-put-last-requires-2 : (t : ℕ) → put-decimal-lts.Need-put-last-re
 put-decimal-put-last-requires-2 t c κs =
     let p = c .before .before .before in
     let s = p .before .before .before .before in
-    omega (arith, s .pre .1, p .put-decimal .ensures .ends, put-length (p .put-decimal .ensures), length-decimal-more (s .args .x) (p .before .before .if1 .left))
+    omega (
+      arith,
+      s .pre .1,
+      p .put-decimal .ensures .ends,
+      put-length (p .put-decimal .ensures),
+      length-decimal-more (s .args .x)
+          (p .before .before .if1 .left),
+    )
 
 put-decimal-same-length-2 : (t : ℕ) → put-decimal-lts.Need-same-length-2 (
   put-last-reads.Asked,

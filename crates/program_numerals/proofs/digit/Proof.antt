@@ -1,7 +1,7 @@
 -- `program_numerals::digit` meets its contract: the test is the definition's. Assumes nothing.
 use borrow.Author.Tests.{lt-ltb, le-ltb}
 use borrow.Author.Needs.{needs}
-use Rattle.program_numerals.specs.Numerals.{digit}
+use Rattle.program_numerals.specs.Paper.Numerals.{digit}
 use Rattle.program_numerals.proofs.digit.Statement.{statement}
 use Rattle.program_numerals.proofs.digit.Tie as tie
 

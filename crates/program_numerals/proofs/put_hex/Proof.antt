@@ -6,9 +6,9 @@ use native.Mathlib.Omega.{arith}
 use borrow.Author.Needs.{needs}
 use lib.ListN.{length, take}
 use lib.Seq.{take-suc, take-all, length-take-le}
-use Rattle.program_numerals.specs.Putting.{Put}
+use Rattle.program_numerals.specs.Texts.{Put}
 use Rattle.program_numerals.proofs.Puts.{put-none, put-then, put-as, put-length}
-use Rattle.program_numerals.specs.Numerals.{hex}
+use Rattle.program_numerals.specs.Paper.Numerals.{hex}
 use Rattle.program_numerals.proofs.Numerals.{hex-append, length-hex}
 use Rattle.program_numerals.proofs.put_hex.Statement.{statement}
 use Rattle.program_numerals.proofs.put_hex.Tie as tie

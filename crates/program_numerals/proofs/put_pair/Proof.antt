@@ -3,7 +3,7 @@ use mathlib.Core.Path.{ap₂}
 use mathlib.Core.List.{[], _∷_}
 use Prim.Native.Nat.{ℕ}
 use borrow.Author.Needs.{needs}
-use Rattle.program_numerals.specs.Numerals.{hex}
+use Rattle.program_numerals.specs.Paper.Numerals.{hex}
 use Rattle.program_numerals.proofs.Puts.{put-as, put-then}
 use Rattle.program_numerals.proofs.put_pair.Statement.{statement}
 use Rattle.program_numerals.proofs.put_pair.Tie as tie

@@ -3,8 +3,8 @@ use mathlib.Core.Path.{sym, ap}
 use native.Mathlib.Omega.{arith}
 use borrow.Author.Needs.{needs}
 use Rattle.answers.specs.declared.Answer.{Answer}
-use Rattle.answers.specs.Answers.{saidOf}
-use Rattle.program_text.specs.Output.{saidText, blockText}
+use Rattle.answers.specs.Paper.Enums.{saidOf}
+use Rattle.program_text.specs.Paper.Output.{saidText, blockText}
 use Rattle.program_numerals.proofs.Puts.{put-then, put-as}
 use Rattle.program_text.proofs.put_block.Statement.{statement}
 use Rattle.program_text.proofs.put_block.Tie as tie

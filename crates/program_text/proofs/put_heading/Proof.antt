@@ -1,7 +1,7 @@
 -- `program_text::put_heading` meets its contract. Assumes nothing.
 use native.Mathlib.Omega.{arith}
 use borrow.Author.Needs.{needs}
-use Rattle.program_text.specs.Output.{heading}
+use Rattle.program_text.specs.Paper.Output.{heading}
 use Rattle.program_text.proofs.put_heading.Statement.{statement}
 use Rattle.program_text.proofs.put_heading.Tie as tie
 

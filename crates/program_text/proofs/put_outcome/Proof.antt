@@ -4,9 +4,9 @@ use mathlib.Core.List.{_++_}
 use native.Mathlib.Omega.{arith}
 use borrow.Author.Needs.{needs}
 use Rattle.answers.specs.declared.Outcome.{Outcome}
-use Rattle.answers.specs.Answers.{outcomeOf}
-use Rattle.program_numerals.specs.Numerals.{ascii}
-use Rattle.program_text.specs.Output.{outcomeText}
+use Rattle.answers.specs.Paper.Enums.{outcomeOf}
+use Rattle.program_numerals.specs.Paper.Numerals.{ascii}
+use Rattle.program_text.specs.Paper.Output.{outcomeText}
 use Rattle.program_numerals.proofs.Puts.{put-as}
 use Rattle.program_text.proofs.put_outcome.Statement.{statement}
 use Rattle.program_text.proofs.put_outcome.Tie as tie

@@ -2,7 +2,7 @@
 use mathlib.Core.Path.{ap₂}
 use native.Mathlib.Omega.{arith}
 use borrow.Author.Needs.{needs}
-use Rattle.program_text.specs.Output.{line, refusedText}
+use Rattle.program_text.specs.Paper.Output.{line, refusedText}
 use Rattle.program_numerals.proofs.Puts.{put-then, put-as}
 use Rattle.program_text.proofs.put_refused.Statement.{statement}
 use Rattle.program_text.proofs.put_refused.Tie as tie

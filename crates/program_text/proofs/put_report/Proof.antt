@@ -1,7 +1,7 @@
 -- `program_text::put_report` meets its contract: the fields one after the other. Assumes nothing.
 use native.Mathlib.Omega.{arith}
 use borrow.Author.Needs.{needs}
-use Rattle.program_text.specs.Output.{line, saidText}
+use Rattle.program_text.specs.Paper.Output.{line, saidText}
 use Rattle.program_numerals.proofs.Puts.{put-then}
 use Rattle.program_text.proofs.put_report.Statement.{statement}
 use Rattle.program_text.proofs.put_report.Tie as tie

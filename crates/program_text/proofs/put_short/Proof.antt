@@ -1,7 +1,7 @@
 -- `program_text::put_short` meets its contract. Assumes nothing.
 use native.Mathlib.Omega.{arith}
 use borrow.Author.Needs.{needs}
-use Rattle.program_text.specs.Output.{line, shortText}
+use Rattle.program_text.specs.Paper.Output.{line, shortText}
 use Rattle.program_text.proofs.put_short.Statement.{statement}
 use Rattle.program_text.proofs.put_short.Tie as tie
 

@@ -1,7 +1,7 @@
 -- `quantiser::fill` meets its contract: what is stored by the setting's scale are the setting's levels. Assumes nothing.
 use native.Mathlib.Omega.{arith}
 use borrow.Author.Needs.{needs}
-use Rattle.quantiser.proofs.Filling.{stored-filled}
+use Rattle.quantiser.proofs.Buffers.{stored-filled}
 use Rattle.quantiser.proofs.fill.Statement.{statement}
 use Rattle.quantiser.proofs.fill.Tie as tie
 

@@ -6,12 +6,12 @@ use native.Mathlib.Omega.{arith}
 use borrow.Author.Needs.{needs, sfits-of}
 use mir.ValLaws.{toZ-ofZ}
 use lib.ListN.{length}
-use Rattle.quantiser_levels.specs.Samples.{hardBit}
-use Rattle.quantiser_levels.specs.Scaling.{levelAt}
-use Rattle.quantiser.specs.Filling.{Stored}
+use Rattle.quantiser_levels.specs.Paper.Samples.{hardBit}
+use Rattle.quantiser_levels.specs.Scale.{levelAt}
+use Rattle.quantiser.specs.Buffers.{Stored}
 use Rattle.quantiser_settings.proofs.Ranges.{all-finite}
 use Rattle.quantiser_levels.proofs.Signs.{cell}
-use Rattle.quantiser.proofs.Filling.{stored-none, stored-more}
+use Rattle.quantiser.proofs.Buffers.{stored-none, stored-more}
 use Rattle.quantiser.proofs.fill_by.Statement.{statement}
 use Rattle.quantiser.proofs.fill_by.Tie as tie
 
@@ -36,7 +36,7 @@ level-by-requires : tie.Need-level-by-requires Inv-loop μ-loop
 level-by-requires c κs =
     let z = c .before .before .before .before .before in
     let room = z .pre .1 in
-    (z .pre .0, all-finite (z .args .samples .now) (room .finite) (c .before .before .loop .j) (c .before .loop-test .taken))
+    (z .pre .0, all-finite (z .args .samples .now) (room .each-finite) (c .before .before .loop .j) (c .before .loop-test .taken))
 
 slice-set-from-v : tie.Need-slice-set-from-v Inv-loop μ-loop
 slice-set-from-v c = search needs

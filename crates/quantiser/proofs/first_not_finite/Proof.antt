@@ -5,14 +5,14 @@ use Prim.Native.Nat.{_-_, _≤_}
 use native.Mathlib.Omega.{arith}
 use borrow.Author.Needs.{needs}
 use lib.ListN.{length}
-use Rattle.counting.specs.Search.{any}
+use Rattle.counting.specs.Paper.Search.{anyBelow}
 use Rattle.counting.proofs.Searches.{any-none, any-step, any-clear, first-none, first-at}
-use Rattle.quantiser_levels.specs.Samples.{notFinite}
+use Rattle.quantiser_levels.specs.Paper.Samples.{notFinite}
 use Rattle.quantiser.proofs.first_not_finite.Statement.{statement}
 use Rattle.quantiser.proofs.first_not_finite.Tie as tie
 
 abbrev Inv-loop : tie.InvT-loop
-Inv-loop samples i₀ i = (i ≤ length samples) × (any (notFinite samples) i ≡ false)
+Inv-loop samples i₀ i = (i ≤ length samples) × (anyBelow (notFinite samples) i ≡ false)
 
 abbrev μ-loop : tie.MeasureT-loop
 μ-loop samples i₀ i = length samples - i

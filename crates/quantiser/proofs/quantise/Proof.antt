@@ -8,19 +8,19 @@ use borrow.Author.Needs.{needs}
 use borrow.Author.Tests.{not-true, not-false}
 use lib.ListN.{length}
 use Rattle.counting.proofs.Searches.{first-le}
-use Rattle.answers.specs.Paper.{refused}
-use Rattle.packed_word.specs.Packed.{bytesFor}
-use Rattle.quantiser_levels.specs.Samples.{settingFits, notFinite, firstNotFinite}
-use Rattle.quantiser_settings.specs.Settings.{choiceOf}
-use Rattle.quantiser.specs.Filling.{tooShort}
-use Rattle.quantiser.proofs.Filling.{filled-bit}
+use Rattle.answers.specs.Paper.Answers.{refused}
+use Rattle.packed_word.specs.Paper.Packed.{bytesFor}
+use Rattle.quantiser_levels.specs.Paper.Samples.{settingFits, notFinite, firstNotFinite}
+use Rattle.quantiser_settings.specs.Paper.Settings.{settingOf}
+use Rattle.quantiser.specs.Buffers.{tooShort}
+use Rattle.quantiser.proofs.Buffers.{filled-bit}
 use Rattle.quantiser.proofs.Verdicts.{verdict-setting, verdict-buffer, verdict-sample, verdict-accepted, long-enough}
 use Rattle.quantiser.proofs.Verdicts.{quantised-refused, quantised-accepted}
 use Rattle.quantiser.proofs.quantise.Statement.{statement}
 use Rattle.quantiser.proofs.quantise.Tie as tie
 
 -- past the first test the setting fits
-fits : (c : tie.Else1) → settingFits (choiceOf (c .before .before .before .before .args .setting)) ≡ true
+fits : (c : tie.Else1) → settingFits (settingOf (c .before .before .before .before .args .setting)) ≡ true
 fits c = sym (c .before .setting-fits .ensures) ∙ not-false _ (c .if1 .left)
 
 -- past the second the buffers are long enough
@@ -44,7 +44,7 @@ setting-fits-requires c κs = search needs
 returns : tie.Need-returns
 returns c =
     let a = c .before .before .before .before .args in
-    quantised-refused (verdict-setting (choiceOf (a .setting)) (a .samples .now) _ _ (sym (c .before .setting-fits .ensures) ∙ not-true _ (c .if1 .taken)))
+    quantised-refused (verdict-setting (settingOf (a .setting)) (a .samples .now) _ _ (sym (c .before .setting-fits .ensures) ∙ not-true _ (c .if1 .taken)))
 
 too-short-requires : tie.Need-too-short-requires
 too-short-requires c κs = search needs
@@ -53,7 +53,7 @@ returns-2 : tie.Need-returns-2
 returns-2 c =
     let e = c .before .before in
     let a = e .before .before .before .before .args in
-    quantised-refused (verdict-buffer (choiceOf (a .setting)) (a .samples .now) _ _ (fits e) (sym (c .before .too-short .ensures) ∙ c .if2 .taken))
+    quantised-refused (verdict-buffer (settingOf (a .setting)) (a .samples .now) _ _ (fits e) (sym (c .before .too-short .ensures) ∙ c .if2 .taken))
 
 first-not-finite-requires : tie.Need-first-not-finite-requires
 first-not-finite-requires c κs = search needs
@@ -67,14 +67,14 @@ returns-3 c =
     let a = e .before .before .before .before .before .before .args in
     let q = c .before .first-not-finite .ensures in
     quantised-refused
-    (verdict-sample (choiceOf (a .setting)) (a .samples .now) _ _ (fits (e .before .before)) (enough e) (omega (arith, q, c .if3 .taken))
+    (verdict-sample (settingOf (a .setting)) (a .samples .now) _ _ (fits (e .before .before)) (enough e) (omega (arith, q, c .if3 .taken))
     ∙ ap (refused 8) (sym q))
 
 fill-requires : tie.Need-fill-requires
 fill-requires c κs =
     let e = c .before .before in
     let n = wide (e .before .before) in
-    record { setting = fits (e .before .before .before .before); finite = all e; few = n .0; room = n .1 }
+    record { setting = fits (e .before .before .before .before); each-finite = all e; few = n .0; room = n .1 }
 
 pack-into-requires : tie.Need-pack-into-requires
 pack-into-requires c κs =
@@ -95,7 +95,7 @@ returns-4 c =
     let e = f .before .before .before in
     let a = e .before .before .before .before .before .before .before .before .args in
     quantised-accepted
-    (verdict-accepted (choiceOf (a .setting)) (a .samples .now) _ _ (fits (e .before .before .before .before)) (enough (e .before .before)) (all e))
+    (verdict-accepted (settingOf (a .setting)) (a .samples .now) _ _ (fits (e .before .before .before .before)) (enough (e .before .before)) (all e))
     (f .fill .ensures)
     (p .pack-into .ensures)
 

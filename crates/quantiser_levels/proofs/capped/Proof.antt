@@ -1,7 +1,7 @@
 -- `quantiser_levels::capped` meets its contract: the code is the definition of `nearest`, cut at the top. Assumes nothing.
 use borrow.Author.Needs.{needs}
 use native.Mathlib.Omega.{arith}
-use Rattle.quantiser_levels.specs.Samples.{nearest}
+use Rattle.quantiser_levels.specs.Paper.Samples.{nearestWhole}
 use Rattle.quantiser_levels.proofs.capped.Statement.{statement}
 use Rattle.quantiser_levels.proofs.capped.Tie as tie
 
@@ -21,11 +21,11 @@ div-q : tie.Need-div-q
 div-q c = search needs
 
 returns : tie.Need-returns
-unfolding nearest
+unfolding nearestWhole
 returns c = omega arith
 
 returns-2 : tie.Need-returns-2
-unfolding nearest
+unfolding nearestWhole
 returns-2 c = omega arith
 
 pub capped-spec : {M : Type 1} → statement M

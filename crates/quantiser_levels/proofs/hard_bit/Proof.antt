@@ -2,7 +2,7 @@
 use mathlib.Core.Path.{sym, ap}
 use mathlib.Core.Bool.{Bool, cond}
 use lib.Ieee.{ofBits}
-use Rattle.quantiser_levels.specs.Samples.{hardOf}
+use Rattle.quantiser_levels.specs.Paper.Samples.{hardOf}
 use Rattle.quantiser_levels.proofs.hard_bit.Statement.{statement}
 use Rattle.quantiser_levels.proofs.hard_bit.Tie as tie
 

@@ -3,8 +3,8 @@ use mathlib.Core.Path.{sym, ap, ap₂, _∙_}
 use Prim.Native.Nat.{ℕ, min, _*_, _^_}
 use borrow.Author.Needs.{needs, sfits-of}
 use mir.ValLaws.{toZ-ofZ}
-use Rattle.quantiser_levels.specs.Samples.{nearest, signed}
-use Rattle.quantiser_levels.specs.Scaling.{levelBy}
+use Rattle.quantiser_levels.specs.Paper.Samples.{nearestWhole, signed}
+use Rattle.quantiser_levels.specs.Scale.{levelBy}
 use Rattle.quantiser_levels.proofs.Signs.{cell}
 use Rattle.quantiser_levels.proofs.level_by.Statement.{statement}
 use Rattle.quantiser_levels.proofs.level_by.Tie as tie
@@ -26,7 +26,7 @@ returns c =
     toZ-ofZ cell (c .with-sign .result) (sfits-of (c .with-sign .ok))
     ∙ c .with-sign .ensures
     ∙ ap₂ signed (y .sign)
-    (c .before .magnitude-of .ensures ∙ sym (ap (λ (n : ℕ). min (s .top) (nearest (s .gain * n) (s .sig * 2 ^ s .shift))) (y .value)))
+    (c .before .magnitude-of .ensures ∙ sym (ap (λ (n : ℕ). min (s .top) (nearestWhole (s .gain * n) (s .sig * 2 ^ s .shift))) (y .value)))
 
 pub level-by-spec : {M : Type 1} → statement M
 level-by-spec =

@@ -4,7 +4,7 @@ use mathlib.Core.Path.{sym, ap₂, _∙_}
 use Prim.Native.Nat.{ℕ, min, _*_, _^_, _≤_}
 use borrow.Author.Needs.{needs}
 use native.Mathlib.Omega.{arith}
-use Rattle.quantiser_levels.specs.Samples.{nearest}
+use Rattle.quantiser_levels.specs.Paper.Samples.{nearestWhole}
 use Rattle.quantiser_levels.proofs.Nearest.{product, shifted, sample-shl, sample-lt, step-shl, step-lt, step-pos}
 use Rattle.quantiser_levels.proofs.magnitude_of.Statement.{statement}
 use Rattle.quantiser_levels.proofs.magnitude_of.Tie as tie
@@ -51,8 +51,8 @@ returns c =
     let u : up .result ≤ 27 = omega (arith, up .ensures) in
     let d : down .result ≤ 27 = omega (arith, down .ensures) in
     c .capped .ensures
-    ∙ ap₂ (λ (a b : ℕ). min (s .top) (nearest a b)) (sample-shl (p .0) (p .1) (up .result) u) (step-shl (p .0) (p .1) (down .result) d)
-    ∙ ap₂ (λ (a b : ℕ). min (s .top) (nearest (s .gain * y .sig * 2 ^ a) (s .sig * 2 ^ b))) (up .ensures) (down .ensures)
+    ∙ ap₂ (λ (a b : ℕ). min (s .top) (nearestWhole a b)) (sample-shl (p .0) (p .1) (up .result) u) (step-shl (p .0) (p .1) (down .result) d)
+    ∙ ap₂ (λ (a b : ℕ). min (s .top) (nearestWhole (s .gain * y .sig * 2 ^ a) (s .sig * 2 ^ b))) (up .ensures) (down .ensures)
     ∙ sym (shifted (p .0) (p .1) (s .shift))
 
 pub magnitude-of-spec : {M : Type 1} → statement M

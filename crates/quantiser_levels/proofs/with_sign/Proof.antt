@@ -7,7 +7,7 @@ use native.Mathlib.Nat.{lt-of-lt-of-le}
 use lib.Dec.{lit≤}
 use mir.Val.{hbits}
 use mir.ValLaws.{toZ-pos}
-use Rattle.quantiser_levels.specs.Samples.{signed}
+use Rattle.quantiser_levels.specs.Paper.Samples.{signed}
 use Rattle.quantiser_levels.proofs.Signs.{cell, minus-fits, minus-back}
 use Rattle.quantiser_levels.proofs.with_sign.Statement.{statement}
 use Rattle.quantiser_levels.proofs.with_sign.Tie as tie

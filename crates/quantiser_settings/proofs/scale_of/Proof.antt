@@ -8,17 +8,17 @@ use native.Mathlib.Omega.{arith}
 use lib.Dec.{eqb}
 use Rattle.quantiser_settings.specs.declared.Step.{Step}
 use Rattle.quantiser_settings.specs.declared.Step.the-variants.{Level, FullScale}
-use Rattle.quantiser_levels.specs.Samples.{stepFits, largest}
-use Rattle.quantiser_settings.specs.Settings.{choiceOf, kindOf}
-use Rattle.quantiser_settings.specs.Ranges.{InRange}
-use Rattle.quantiser_settings.specs.Settings.{gainBy}
+use Rattle.quantiser_levels.specs.Paper.Samples.{stepFits, largest}
+use Rattle.quantiser_settings.specs.Paper.Settings.{settingOf, kindOf}
+use Rattle.quantiser_settings.specs.Paper.Ranges.{InRange}
+use Rattle.quantiser_settings.specs.Gain.{gainBy}
 use Rattle.quantiser_settings.proofs.Ranges.{fits-reads, largest-some, largest-most}
 use Rattle.quantiser_levels.proofs.Floats.{step-finite, step-lead, moved}
 use Rattle.quantiser_settings.proofs.scale_of.Statement.{statement}
 use Rattle.quantiser_settings.proofs.scale_of.Tie as tie
 
-range : (c : tie.Start) → InRange (choiceOf (c .args .setting))
-range c = fits-reads (choiceOf (c .args .setting)) (c .pre)
+range : (c : tie.Start) → InRange (settingOf (c .args .setting))
+range c = fits-reads (settingOf (c .args .setting)) (c .pre)
 
 -- the gain is that of the setting, and at least 1 and at most the largest level
 gain-is : (s : Step) (t : ℕ) → gainBy s t ≡ cond (eqb (kindOf s) 0) 1 t

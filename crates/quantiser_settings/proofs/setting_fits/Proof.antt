@@ -6,8 +6,8 @@ use borrow.Author.Tests.{not-true, not-false}
 use lib.Dec.{leb}
 use Rattle.quantiser_settings.specs.declared.Step.{Step}
 use Rattle.quantiser_settings.specs.declared.Step.the-variants.{Level, FullScale}
-use Rattle.quantiser_levels.specs.Samples.{stepFits, settingFits}
-use Rattle.quantiser_settings.specs.Settings.{kindOf}
+use Rattle.quantiser_levels.specs.Paper.Samples.{stepFits, settingFits}
+use Rattle.quantiser_settings.specs.Paper.Settings.{kindOf}
 use Rattle.quantiser_settings.proofs.setting_fits.Statement.{statement}
 use Rattle.quantiser_settings.proofs.setting_fits.Tie as tie
 

@@ -9,14 +9,14 @@ use lib.ListN.{getD}
 use mir.Syntax.{w8}
 use mir.Val.{toZ, ofZ}
 use mir.ValLaws.{toZ-ofZ}
-use Rattle.counting.specs.Search.{any}
+use Rattle.counting.specs.Paper.Search.{anyBelow}
 use Rattle.session_asking.specs.Parts.{far}
-use Rattle.session_asking.proofs.Asking.{far-found, far-more}
+use Rattle.session_asking.proofs.Questions.{far-found, far-more}
 use Rattle.session_asking.proofs.any_far.Statement.{statement}
 use Rattle.session_asking.proofs.any_far.Tie as tie
 
 abbrev Inv-loop : tie.InvT-loop
-Inv-loop levels n middle j₀ j = (j ≤ n) × (any (far middle levels) j ≡ false)
+Inv-loop levels n middle j₀ j = (j ≤ n) × (anyBelow (far middle levels) j ≡ false)
 
 abbrev μ-loop : tie.MeasureT-loop
 μ-loop levels n middle j₀ j = n - j
@@ -28,7 +28,7 @@ byte-back : (c : tie.After-r Inv-loop μ-loop)
 byte-back c = toZ-ofZ w8 _ (record { sfits = c .r .given })
 
 loop-holds : tie.Need-loop-holds Inv-loop μ-loop
-unfolding any
+unfolding anyBelow
 loop-holds c = search needs
 
 shared-slice-copy-out-r : tie.Need-shared-slice-copy-out-r Inv-loop μ-loop
@@ -41,7 +41,8 @@ returns : tie.Need-returns Inv-loop μ-loop
 returns c =
     let l = c .before .before .before .before in
     let a = l .before .args in
-    far-found (a .middle) (a .levels .now) (a .n) (l .loop .j) (c .before .magnitude .result) (omega arith) (c .before .magnitude .ensures ∙ ap natAbs (byte-back (c .before .before))) (c .if1 .taken)
+    far-found (a .middle) (a .levels .now) (a .n) (l .loop .j) (c .before .magnitude .result) (omega arith)
+    (c .before .magnitude .ensures ∙ ap natAbs (byte-back (c .before .before))) (c .if1 .taken)
 
 add-j : tie.Need-add-j Inv-loop μ-loop
 add-j c = search needs
@@ -52,15 +53,18 @@ loop-less c = search needs
 loop-again : tie.Need-loop-again Inv-loop μ-loop
 loop-again c =
     let l = c .before .before .before .before in
-    let a = l .before .args in
-    (omega arith, far-more (a .middle) (a .levels .now) (l .loop .j) (c .before .magnitude .result) (l .loop .inv .1) (c .before .magnitude .ensures ∙ ap natAbs (byte-back (c .before .before))) (c .if1 .left))
+    let a = l .before .args in (
+      omega arith,
+      far-more (a .middle) (a .levels .now) (l .loop .j) (c .before .magnitude .result) (l .loop .inv .1)
+          (c .before .magnitude .ensures ∙ ap natAbs (byte-back (c .before .before))) (c .if1 .left),
+    )
 
 returns-2 : tie.Need-returns-2 Inv-loop μ-loop
 returns-2 c =
     let a = c .before .before .args in
     let l = c .before .loop in
     let e : l .j ≡ a .n = omega arith in
-    sym (ap (any (far (a .middle) (a .levels .now))) (sym e) ∙ l .inv .1)
+    sym (ap (anyBelow (far (a .middle) (a .levels .now))) (sym e) ∙ l .inv .1)
 
 pub any-far-spec : {M : Type 1} → statement M
 any-far-spec =

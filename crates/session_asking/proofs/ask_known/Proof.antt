@@ -2,12 +2,12 @@
 use mathlib.Core.Path.{_≡_, ap, ap₂, _∙_}
 use mathlib.Core.Bool.{Bool}
 use borrow.Author.Needs.{needs}
-use Rattle.answers.specs.Paper.{accepted, refuseWhen, andThen}
-use Rattle.answers.specs.Answers.{verdictOf}
-use Rattle.session_record.specs.Sessions.{recordOf}
-use Rattle.session_asking.specs.Asked.{unusable, ended, otherSizes}
+use Rattle.answers.specs.Paper.Answers.{accepted, refuseWhen, andThen}
+use Rattle.answers.specs.Paper.Enums.{verdictOf}
+use Rattle.session_record.specs.Paper.Sessions.{recordOf}
+use Rattle.session_asking.specs.Paper.Asked.{unusable, ended, otherSizes}
 use Rattle.session_asking.specs.Parts.{knownVerdict}
-use Rattle.matrix.specs.Shapes.{matrixOf}
+use Rattle.matrix.specs.Paper.Shapes.{matrixOf}
 use Rattle.session_asking.proofs.ask_known.Statement.{statement}
 use Rattle.session_asking.proofs.ask_known.Tie as tie
 
@@ -19,14 +19,16 @@ record-asked c = c .before .before .before
 says-20 : (c : tie.After-refused-when) → verdictOf (c .refused-when .result) ≡ refuseWhen 20 (unusable (recordOf (record-asked c .args .session))) accepted
 says-20 c = c .refused-when .ensures ∙ ap (λ (t : Bool). refuseWhen 20 t accepted) (c .before .is-unusable .ensures)
 
-says-21 : (c : tie.After-refused-when2) → verdictOf (c .refused-when2 .result) ≡ refuseWhen 21 (ended (recordOf (record-asked (c .before .before) .args .session))) accepted
+says-21 : (c : tie.After-refused-when2) → verdictOf (c .refused-when2 .result) ≡ refuseWhen 21
+    (ended (recordOf (record-asked (c .before .before) .args .session))) accepted
 says-21 c = c .refused-when2 .ensures ∙ ap (λ (t : Bool). refuseWhen 21 t accepted) (c .before .is-ended .ensures)
 
 abbrev sizes-asked : tie.After-refused-when3 → tie.Start
 sizes-asked c = record-asked (c .before .before .before .before .before)
 
 says-22 : (c : tie.After-refused-when3)
-    → verdictOf (c .refused-when3 .result) ≡ refuseWhen 22 (otherSizes (matrixOf (sizes-asked c .args .shape) (sizes-asked c .args .list .now)) (recordOf (sizes-asked c .args .session))) accepted
+    → verdictOf (c .refused-when3 .result) ≡ refuseWhen 22 (otherSizes (matrixOf (sizes-asked c .args .shape) (sizes-asked c .args .list .now))
+    (recordOf (sizes-asked c .args .session))) accepted
 unfolding otherSizes
 says-22 c = c .refused-when3 .ensures ∙ ap (λ (t : Bool). refuseWhen 22 t accepted) (c .before .sizes-differ .ensures)
 

@@ -5,14 +5,15 @@ use mathlib.Core.List.{List}
 use Prim.Native.Nat.{ℕ}
 use borrow.Author.Needs.{needs}
 use lib.ListN.{length}
-use Rattle.answers.specs.Paper.{accepted, refuseWhen}
-use Rattle.answers.specs.Answers.{verdictOf, numberOf, placeOf}
-use Rattle.matrix.specs.Code.{Matrix}
-use Rattle.matrix.specs.Shapes.{matrixOf}
-use Rattle.syndrome.specs.Failing.{wordVerdict}
+use Rattle.answers.specs.Paper.Answers.{accepted, refuseWhen}
+use Rattle.answers.specs.Paper.Enums.{verdictOf, numberOf, placeOf}
+use Rattle.matrix.specs.Paper.Code.{Matrix}
+use Rattle.matrix.specs.Paper.Shapes.{matrixOf}
+use Rattle.syndrome.specs.Paper.Failing.{wordVerdict}
 use Rattle.syndrome.proofs.Received.{word-fits}
-use Rattle.session_asking.specs.Asked.{Held, beyond}
-use Rattle.session_asking.specs.Parts.{heldOf, beyondIn}
+use Rattle.session_asking.specs.Paper.Asked.{Held, beyond}
+use Rattle.session_asking.specs.Parts.{beyondIn}
+use Rattle.session_asking.specs.Paper.Asked.{heldOf}
 use Rattle.session_asking.proofs.Parts.{says-word, says-beyond}
 use Rattle.session_asking.proofs.ask_lent.Statement.{statement}
 use Rattle.session_asking.proofs.ask_lent.Tie as tie
@@ -31,7 +32,8 @@ asked c = c .before .before .before .before .before .before
 
 -- what was asked of the received word
 said : (c : tie.After-ask-word)
-    → let s = asked c in wordVerdict (lent-matrix s .n) (received s) (length (s .args .word .now)) (length (s .args .levels .now)) ≡ verdictOf (c .ask-word .result)
+    → let s = asked c in wordVerdict (lent-matrix s .n) (received s) (length (s .args .word .now)) (length (s .args .levels .now)) ≡ verdictOf
+    (c .ask-word .result)
 said c = sym (c .ask-word .ensures)
 
 cast-n : tie.Need-cast-n

@@ -3,12 +3,12 @@ use mathlib.Core.Path.{sym, ap, _∙_}
 use mathlib.Core.List.{List}
 use Prim.Native.Nat.{ℕ}
 use borrow.Author.Needs.{needs}
-use Rattle.answers.specs.Answers.{verdictOf, numberOf, placeOf}
-use Rattle.matrix.specs.Code.{Matrix}
-use Rattle.matrix.specs.Shapes.{matrixOf}
-use Rattle.session_asking.specs.Asked.{Held}
-use Rattle.session_asking.specs.Parts.{heldOf}
-use Rattle.session_asking.proofs.Asking.{known-usable, known-matrix}
+use Rattle.answers.specs.Paper.Enums.{verdictOf, numberOf, placeOf}
+use Rattle.matrix.specs.Paper.Code.{Matrix}
+use Rattle.matrix.specs.Paper.Shapes.{matrixOf}
+use Rattle.session_asking.specs.Paper.Asked.{Held}
+use Rattle.session_asking.specs.Paper.Asked.{heldOf}
+use Rattle.session_asking.proofs.Questions.{known-usable, known-matrix}
 use Rattle.session_asking.proofs.Parts.{says-known, says-lent}
 use Rattle.session_asking.proofs.ask_step.Statement.{statement}
 use Rattle.session_asking.proofs.ask_step.Tie as tie

@@ -8,7 +8,8 @@ use Rattle.session_asking.proofs.Parts.{spare-front}
 use Rattle.session_asking.proofs.is_beyond.Statement.{statement}
 use Rattle.session_asking.proofs.is_beyond.Tie as tie
 
-front-long : (c : tie.After-spare-set-arg) → length (take ((c .before .before .args .n + 7) / 8) (c .before .before .args .word .now)) ≡ (c .before .before .args .n + 7) / 8
+front-long : (c : tie.After-spare-set-arg) → length (take ((c .before .before .args .n + 7) / 8) (c .before .before .args .word .now)) ≡
+    (c .before .before .args .n + 7) / 8
 front-long c = length-take ((c .before .before .args .n + 7) / 8) (c .before .before .args .word .now) ∙ omega arith
 
 add-need : tie.Need-add-need

@@ -1,6 +1,6 @@
 -- `session_asking::is_ended` meets its contract: each state is asked as the definition does. Assumes nothing.
 use borrow.Author.Needs.{needs}
-use Rattle.session_asking.specs.Asked.{ended}
+use Rattle.session_asking.specs.Paper.Asked.{ended}
 use Rattle.session_asking.proofs.is_ended.Statement.{statement}
 use Rattle.session_asking.proofs.is_ended.Tie as tie
 

@@ -1,6 +1,6 @@
 -- `session_asking::is_unusable` meets its contract: a working record is asked its numbers, and an empty one is refused. Assumes nothing.
 use borrow.Author.Needs.{needs}
-use Rattle.session_asking.specs.Asked.{unusable}
+use Rattle.session_asking.specs.Paper.Asked.{unusable}
 use Rattle.session_asking.proofs.is_unusable.Statement.{statement}
 use Rattle.session_asking.proofs.is_unusable.Tie as tie
 

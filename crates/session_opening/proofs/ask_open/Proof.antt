@@ -1,11 +1,11 @@
 -- `session_opening::ask_open` meets its contract: the matrix is asked first, then what is lent with it. Assumes nothing.
 use mathlib.Core.Path.{sym, ap, _∙_}
 use borrow.Author.Needs.{needs}
-use Rattle.answers.specs.Answers.{verdictOf, numberOf, placeOf}
-use Rattle.matrix.specs.Code.{Matrix}
-use Rattle.matrix.specs.Shapes.{matrixOf}
-use Rattle.matrix.proofs.Reading.{accepted-is}
-use Rattle.quantiser_settings.specs.Settings.{choiceOf}
+use Rattle.answers.specs.Paper.Enums.{verdictOf, numberOf, placeOf}
+use Rattle.matrix.specs.Paper.Code.{Matrix}
+use Rattle.matrix.specs.Paper.Shapes.{matrixOf}
+use Rattle.matrix.proofs.PlainCheck.{accepted-is}
+use Rattle.quantiser_settings.specs.Paper.Settings.{settingOf}
 use Rattle.session_asking.proofs.Parts.{says-open-matrix, says-samples}
 use Rattle.session_opening.proofs.ask_open.Statement.{statement}
 use Rattle.session_opening.proofs.ask_open.Tie as tie
@@ -37,7 +37,7 @@ returns : tie.Need-returns
 returns c =
     let k = c .before .before .before in
     let s = checked k in
-    says-samples (lent-matrix s) (choiceOf (s .args .setting)) (s .args .samples .now) (s .args .bytes) (s .args .room) _
+    says-samples (lent-matrix s) (settingOf (s .args .setting)) (s .args .samples .now) (s .args .bytes) (s .args .room) _
     (sym (k .check .ensures) ∙ ap verdictOf (c .before .enum-told .given .1)) (c .ask-samples .ensures)
 
 returns-2 : tie.Need-returns-2
@@ -45,7 +45,8 @@ returns-2 c =
     let k = c .before .before .before in
     let s = checked k in
     let f = c .before .asked .given in
-    says-open-matrix (lent-matrix s) (choiceOf (s .args .setting)) (s .args .samples .now) (s .args .bytes) (s .args .room) (numberOf (f .0 .0)) (placeOf (f .0 .0))
+    says-open-matrix (lent-matrix s) (settingOf (s .args .setting)) (s .args .samples .now) (s .args .bytes) (s .args .room) (numberOf (f .0 .0))
+    (placeOf (f .0 .0))
     (sym (k .check .ensures) ∙ ap verdictOf (f .1))
 
 pub ask-open-spec : {M : Type 1} → statement M

@@ -1,12 +1,12 @@
 -- `session_opening::open_accepted` meets its contract: the levels and the hard bits, and the counts on them. Assumes nothing.
 use borrow.Author.Needs.{needs}
 use Rattle.counting.specs.Places.{at}
-use Rattle.matrix.specs.Code.{Matrix, Word}
-use Rattle.matrix.specs.Shapes.{matrixOf}
-use Rattle.quantiser_settings.specs.Settings.{choiceOf}
-use Rattle.session_asking.specs.Asked.{Held, lent}
-use Rattle.session.specs.Leaving.{blank}
-use Rattle.session.proofs.Answering.{open-fillable, cells-word, open-leaves}
+use Rattle.matrix.specs.Paper.Code.{Matrix, Word}
+use Rattle.matrix.specs.Paper.Shapes.{matrixOf}
+use Rattle.quantiser_settings.specs.Paper.Settings.{settingOf}
+use Rattle.session_asking.specs.Paper.Asked.{Held, lent}
+use Rattle.session.specs.RoundParts.{blank}
+use Rattle.session.proofs.Answers.{open-fillable, cells-word, open-leaves}
 use Rattle.session_opening.proofs.open_accepted.Statement.{statement}
 use Rattle.session_opening.proofs.open_accepted.Tie as tie
 
@@ -23,7 +23,7 @@ filled c = c .before .before .before .before .before .before .before
 cells : (c : tie.After-fill) → Word (lent-matrix (filled c)) (at (c .fill .last .1 .1 .1 .0))
 cells c =
     let s = filled c in
-    cells-word (lent-matrix s) (choiceOf (s .args .setting)) (s .args .samples .now) (held s) (s .pre) _ _ _ (c .fill .ensures)
+    cells-word (lent-matrix s) (settingOf (s .args .setting)) (s .args .samples .now) (held s) (s .pre) _ _ _ (c .fill .ensures)
 
 cast-n : tie.Need-cast-n
 cast-n c = search needs
@@ -31,7 +31,7 @@ cast-n c = search needs
 fill-requires : tie.Need-fill-requires
 fill-requires c κs =
     let s = c .before .before .before .before .before .before in
-    open-fillable (lent-matrix s) (choiceOf (s .args .setting)) (s .args .samples .now) (held s) (s .pre)
+    open-fillable (lent-matrix s) (settingOf (s .args .setting)) (s .args .samples .now) (held s) (s .pre)
 
 pack-into-requires : tie.Need-pack-into-requires
 unfolding Word
@@ -58,7 +58,7 @@ returns c =
     let p = c .before .before .before .before .before in
     let f = p .before .before .before .before in
     let s = filled f in
-    open-leaves (lent-matrix s) (choiceOf (s .args .setting)) (s .args .samples .now) (held s) (s .pre) _ _ _ (f .fill .ensures) _ _ _ _
+    open-leaves (lent-matrix s) (settingOf (s .args .setting)) (s .args .samples .now) (held s) (s .pre) _ _ _ (f .fill .ensures) _ _ _ _
     (p .pack-into .ensures) (c .before .failing-count .ensures) (c .after-round .ensures .0) (c .after-round .ensures .1)
 
 pub open-accepted-spec : {M : Type 1} → statement M

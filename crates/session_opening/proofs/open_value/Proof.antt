@@ -1,16 +1,16 @@
 -- `session_opening::open_value` meets its contract: a refused opening hands everything back. Assumes nothing.
 use mathlib.Core.Path.{_≡_, sym, ap, _∙_}
 use borrow.Author.Needs.{needs}
-use Rattle.answers.specs.Answers.{verdictOf, numberOf, placeOf}
-use Rattle.matrix.specs.Code.{Matrix}
-use Rattle.matrix.specs.Shapes.{matrixOf}
-use Rattle.quantiser_settings.specs.Settings.{choiceOf}
-use Rattle.session_record.specs.Sessions.{recordOf}
-use Rattle.session_asking.specs.Asked.{Held, lent, openVerdict}
-use Rattle.session_asking.specs.Parts.{heldOf}
-use Rattle.session.specs.Leaving.{blank}
-use Rattle.session_asking.proofs.Asking.{accepted-open}
-use Rattle.session.proofs.Answering.{leaves-opened, leaves-unopened}
+use Rattle.answers.specs.Paper.Enums.{verdictOf, numberOf, placeOf}
+use Rattle.matrix.specs.Paper.Code.{Matrix}
+use Rattle.matrix.specs.Paper.Shapes.{matrixOf}
+use Rattle.quantiser_settings.specs.Paper.Settings.{settingOf}
+use Rattle.session_record.specs.Paper.Sessions.{recordOf}
+use Rattle.session_asking.specs.Paper.Asked.{Held, lent, openVerdict}
+use Rattle.session_asking.specs.Paper.Asked.{heldOf}
+use Rattle.session.specs.RoundParts.{blank}
+use Rattle.session_asking.proofs.Questions.{accepted-open}
+use Rattle.session.proofs.Answers.{leaves-opened, leaves-unopened}
 use Rattle.session_opening.proofs.open_value.Statement.{statement}
 use Rattle.session_opening.proofs.open_value.Tie as tie
 
@@ -25,7 +25,7 @@ asked c = c .before .before .before .before
 
 -- what was asked is the opening's verdict
 verdict : (c : tie.After-ask-open)
-    → openVerdict (lent-matrix (asked c)) (choiceOf (asked c .args .setting)) (asked c .args .samples .now) (held (asked c))
+    → openVerdict (lent-matrix (asked c)) (settingOf (asked c .args .setting)) (asked c .args .samples .now) (held (asked c))
     ≡ verdictOf (c .ask-open .result)
 unfolding openVerdict
 verdict c = sym (c .ask-open .ensures)
@@ -42,7 +42,7 @@ open-accepted-requires c κs =
     let t = c .before .before in
     let k = t .before .before in
     let s = asked k in
-    accepted-open (lent-matrix s) (choiceOf (s .args .setting)) (s .args .samples .now) (lent blank (s .args .word .now) (s .args .levels .now))
+    accepted-open (lent-matrix s) (settingOf (s .args .setting)) (s .args .samples .now) (lent blank (s .args .word .now) (s .args .levels .now))
     (verdict k ∙ ap verdictOf (t .enum-told .given .1))
 
 enum-known-asked : tie.Need-enum-known-asked
@@ -63,7 +63,7 @@ returns c =
     let t = r .before .before .before in
     let k = t .before .before in
     let s = asked k in
-    leaves-opened (lent-matrix s) (choiceOf (s .args .setting)) (s .args .samples .now) (held s) _ _ _ _ (verdict k ∙ ap verdictOf (t .enum-told .given .1))
+    leaves-opened (lent-matrix s) (settingOf (s .args .setting)) (s .args .samples .now) (held s) _ _ _ _ (verdict k ∙ ap verdictOf (t .enum-told .given .1))
     (r .open-accepted .ensures)
 
 returns-2 : tie.Need-returns-2
@@ -72,7 +72,7 @@ returns-2 c =
     let k = a .before .before in
     let s = asked k in
     let f = a .asked .given in
-    leaves-unopened (lent-matrix s) (choiceOf (s .args .setting)) (s .args .samples .now) (held s) _ _ (numberOf (f .0 .0)) (placeOf (f .0 .0))
+    leaves-unopened (lent-matrix s) (settingOf (s .args .setting)) (s .args .samples .now) (held s) _ _ (numberOf (f .0 .0)) (placeOf (f .0 .0))
     (verdict k ∙ ap verdictOf (f .1)) (c .refuse .ensures .1) (ap recordOf (c .refuse .ensures .0))
 
 pub open-value-spec : {M : Type 1} → statement M

@@ -4,8 +4,8 @@ use Prim.Native.Nat.{ℕ}
 use native.Mathlib.Decide.{decLt}
 use native.Mathlib.Omega.{arith}
 use borrow.Author.Tests.{lt-ltb, le-ltb}
-use Rattle.session_record.specs.Record.{empty}
-use Rattle.session_record.specs.Sessions.{knownState}
+use Rattle.session_record.specs.Paper.Record.{empty}
+use Rattle.session_record.specs.Paper.Sessions.{knownState}
 use Rattle.session_record.proofs.state_of.Statement.{statement}
 use Rattle.session_record.proofs.state_of.Tie as tie
 

@@ -1,10 +1,10 @@
 -- `session_round::round_on` meets its contract: the arrays hold the state that is lent, and then the state after a round. Assumes nothing.
 use borrow.Author.Needs.{needs}
 use Rattle.counting.specs.Places.{at}
-use Rattle.matrix.specs.Code.{Matrix, Word}
-use Rattle.matrix.specs.Shapes.{matrixOf}
-use Rattle.syndrome.proofs.Unpacking.{unpacked-word}
-use Rattle.session_round.proofs.Rounding.{next-word, next-restorable, round-left}
+use Rattle.matrix.specs.Paper.Code.{Matrix, Word}
+use Rattle.matrix.specs.Paper.Shapes.{matrixOf}
+use Rattle.syndrome.proofs.Unpacked.{unpacked-word}
+use Rattle.session_round.proofs.Rounds.{next-word, next-restorable, round-left}
 use Rattle.session_round.proofs.round_on.Statement.{statement}
 use Rattle.session_round.proofs.round_on.Tie as tie
 
@@ -39,8 +39,8 @@ next-bits c =
 cast-n : tie.Need-cast-n
 cast-n c = search needs
 
-mul-top : tie.Need-mul-top
-mul-top c = search needs
+mul-ceiling : tie.Need-mul-ceiling
+mul-ceiling c = search needs
 
 unpack-requires : tie.Need-unpack-requires
 unpack-requires c κs = search needs
@@ -94,7 +94,7 @@ round-on-spec =
     tie.close
     (tie.spec
     cast-n
-    mul-top
+    mul-ceiling
     unpack-requires
     bias-requires
     tally-requires

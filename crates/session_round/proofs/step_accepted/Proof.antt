@@ -5,12 +5,12 @@ use Prim.Native.Nat.{ℕ}
 use native.Mathlib.Omega.{arith}
 use borrow.Author.Needs.{needs}
 use lib.ListN.{length, take}
-use Rattle.packed_word.specs.Packed.{bytesFor}
-use Rattle.matrix.specs.Code.{Matrix}
-use Rattle.matrix.specs.Shapes.{matrixOf}
-use Rattle.session_asking.specs.Asked.{Held}
-use Rattle.session_asking.specs.Parts.{heldOf}
-use Rattle.session.proofs.Answering.{step-lent, front-long, step-leaves}
+use Rattle.packed_word.specs.Paper.Packed.{bytesFor}
+use Rattle.matrix.specs.Paper.Code.{Matrix}
+use Rattle.matrix.specs.Paper.Shapes.{matrixOf}
+use Rattle.session_asking.specs.Paper.Asked.{Held}
+use Rattle.session_asking.specs.Paper.Asked.{heldOf}
+use Rattle.session.proofs.Answers.{step-lent, front-long, step-leaves}
 use Rattle.session_round.proofs.step_accepted.Statement.{statement}
 use Rattle.session_round.proofs.step_accepted.Tie as tie
 

@@ -3,14 +3,14 @@ use mathlib.Core.Path.{sym, ap, _∙_}
 use mathlib.Core.List.{List}
 use Prim.Native.Nat.{ℕ}
 use borrow.Author.Needs.{needs}
-use Rattle.answers.specs.Answers.{verdictOf, numberOf, placeOf}
-use Rattle.matrix.specs.Code.{Matrix}
-use Rattle.matrix.specs.Shapes.{matrixOf}
-use Rattle.session_record.specs.Sessions.{recordOf}
-use Rattle.session_asking.specs.Asked.{Held}
-use Rattle.session_asking.specs.Parts.{heldOf}
-use Rattle.session_asking.proofs.Asking.{accepted-step}
-use Rattle.session.proofs.Answering.{leaves-stepped, leaves-refused}
+use Rattle.answers.specs.Paper.Enums.{verdictOf, numberOf, placeOf}
+use Rattle.matrix.specs.Paper.Code.{Matrix}
+use Rattle.matrix.specs.Paper.Shapes.{matrixOf}
+use Rattle.session_record.specs.Paper.Sessions.{recordOf}
+use Rattle.session_asking.specs.Paper.Asked.{Held}
+use Rattle.session_asking.specs.Paper.Asked.{heldOf}
+use Rattle.session_asking.proofs.Questions.{accepted-step}
+use Rattle.session.proofs.Answers.{leaves-stepped, leaves-refused}
 use Rattle.session_round.proofs.step_value.Statement.{statement}
 use Rattle.session_round.proofs.step_value.Tie as tie
 

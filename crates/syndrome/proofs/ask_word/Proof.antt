@@ -3,9 +3,9 @@ use mathlib.Core.Path.{_≡_, sym, ap, _∙_}
 use mathlib.Core.Bool.{Bool, false}
 use borrow.Author.Needs.{needs}
 use lib.ListN.{length}
-use Rattle.answers.specs.Paper.{accepted, refuseWhen, wrongLengths}
+use Rattle.answers.specs.Paper.Answers.{accepted, refuseWhen, wrongLengths}
 use Rattle.answers.proofs.Verdicts.{lengths-fit}
-use Rattle.packed_word.specs.Packed.{bytesFor}
+use Rattle.packed_word.specs.Paper.Packed.{bytesFor}
 use Rattle.syndrome.proofs.Received.{word-buffer, word-spare}
 use Rattle.syndrome.proofs.ask_word.Statement.{statement}
 use Rattle.syndrome.proofs.ask_word.Tie as tie

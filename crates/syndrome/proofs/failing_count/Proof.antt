@@ -3,17 +3,17 @@ use Prim.Native.Nat.{ℕ, _-_, _≤_}
 use mathlib.Core.Path.{_≡_, refl, ap, _∙_}
 use native.Mathlib.Nat.{le-antisymm}
 use native.Mathlib.Omega.{arith}
-use Rattle.counting.specs.Sum.{sum}
+use Rattle.counting.specs.Paper.Sum.{sumBelow}
 use Rattle.counting.specs.Places.{at}
-use Rattle.matrix.specs.Code.{failing}
-use Rattle.matrix.specs.Shapes.{matrixOf}
+use Rattle.matrix.specs.Paper.Code.{failing}
+use Rattle.matrix.specs.Paper.Shapes.{matrixOf}
 use Rattle.syndrome.specs.Places.{rowFails}
 use Rattle.syndrome.proofs.Parity.{row-part, checks, row-is, row-fails, count-step, count-most}
 use Rattle.syndrome.proofs.failing_count.Statement.{statement}
 use Rattle.syndrome.proofs.failing_count.Tie as tie
 
 abbrev Inv-loop : tie.InvT-loop
-Inv-loop list bits m rho count₀ i₀ count i = (i ≤ m) × (count ≡ sum i (rowFails list rho (at bits)))
+Inv-loop list bits m rho count₀ i₀ count i = (i ≤ m) × (count ≡ sumBelow i (rowFails list rho (at bits)))
 
 abbrev μ-loop : tie.MeasureT-loop
 μ-loop list bits m rho count₀ i₀ count i = m - i
@@ -25,7 +25,7 @@ cast-rho : tie.Need-cast-rho Inv-loop μ-loop
 cast-rho c = omega (arith, c .before .before .before .pre .0 .sizes .rho-most)
 
 loop-holds : tie.Need-loop-holds Inv-loop μ-loop
-unfolding sum
+unfolding sumBelow
 loop-holds c = (omega arith, refl)
 
 mul-row-parity : tie.Need-mul-row-parity Inv-loop μ-loop
@@ -72,8 +72,8 @@ returns c =
     let H = matrixOf (a .shape) (a .list .now) in
     let z = at (a .bits .now) in
     o .inv .1
-    ∙ ap (λ (k : ℕ). sum k (rowFails (a .list .now) (a .shape .rho) z)) (le-antisymm (o .inv .0) (c .loop-test .left))
-    ∙ ap (sum (a .shape .m)) (row-fails H z)
+    ∙ ap (λ (k : ℕ). sumBelow k (rowFails (a .list .now) (a .shape .rho) z)) (le-antisymm (o .inv .0) (c .loop-test .left))
+    ∙ ap (sumBelow (a .shape .m)) (row-fails H z)
 
 pub failing-count-spec : {M : Type 1} → statement M
 failing-count-spec =

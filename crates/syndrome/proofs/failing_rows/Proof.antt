@@ -2,7 +2,7 @@
 use borrow.Author.Needs.{needs}
 use native.Mathlib.Omega.{arith}
 use Rattle.counting.specs.Places.{at}
-use Rattle.matrix.specs.Shapes.{matrixOf}
+use Rattle.matrix.specs.Paper.Shapes.{matrixOf}
 use Rattle.syndrome.proofs.Parity.{checks, row-fails}
 use Rattle.syndrome.proofs.failing_rows.Statement.{statement}
 use Rattle.syndrome.proofs.failing_rows.Tie as tie

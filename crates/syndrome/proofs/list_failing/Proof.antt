@@ -6,7 +6,7 @@ use native.Mathlib.Omega.{arith}
 use Rattle.counting.specs.Places.{at}
 use Rattle.syndrome.specs.Places.{rowFails, Places}
 use Rattle.syndrome.proofs.Parity.{row-is}
-use Rattle.syndrome.proofs.Listing.{places-none, places-step}
+use Rattle.syndrome.proofs.Lists.{places-none, places-step}
 use Rattle.syndrome.proofs.list_failing.Statement.{statement}
 use Rattle.syndrome.proofs.list_failing.Tie as tie
 

@@ -3,21 +3,21 @@ use Prim.Native.Nat.{ℕ, _-_, _%_, _≤_}
 use mathlib.Core.Path.{_≡_, refl, ap, _∙_}
 use native.Mathlib.Nat.{le-antisymm}
 use native.Mathlib.Omega.{arith}
-use Rattle.counting.specs.Sum.{sum}
+use Rattle.counting.specs.Paper.Sum.{sumBelow}
 use Rattle.counting.specs.Places.{at}
-use Rattle.syndrome.specs.Places.{ones}
+use Rattle.syndrome.specs.Places.{onesAt}
 use Rattle.syndrome.proofs.Parity.{parity-step}
 use Rattle.syndrome.proofs.row_parity.Statement.{statement}
 use Rattle.syndrome.proofs.row_parity.Tie as tie
 
 abbrev Inv-loop : tie.InvT-loop
-Inv-loop list from count bits x₀ k₀ x k = (k ≤ count) × (x ≡ ones list from k (at bits) % 2)
+Inv-loop list from count bits x₀ k₀ x k = (k ≤ count) × (x ≡ onesAt list from k (at bits) % 2)
 
 abbrev μ-loop : tie.MeasureT-loop
 μ-loop list from count bits x₀ k₀ x k = count - k
 
 loop-holds : tie.Need-loop-holds Inv-loop μ-loop
-unfolding ones sum
+unfolding onesAt sumBelow
 loop-holds c = (omega arith, refl)
 
 add-j : tie.Need-add-j Inv-loop μ-loop
@@ -52,7 +52,7 @@ returns : tie.Need-returns Inv-loop μ-loop
 returns c =
     let o = c .before .loop in
     let a = c .before .before .args in
-    o .inv .1 ∙ ap (λ (k : ℕ). ones (a .list .now) (a .from) k (at (a .bits .now)) % 2) (le-antisymm (o .inv .0) (omega arith))
+    o .inv .1 ∙ ap (λ (k : ℕ). onesAt (a .list .now) (a .from) k (at (a .bits .now)) % 2) (le-antisymm (o .inv .0) (omega arith))
 
 pub row-parity-spec : {M : Type 1} → statement M
 row-parity-spec =

@@ -1,0 +1,238 @@
+-- From the samples to the arrays of a running decoder, and from where it stops to what is written and counted. Assumes nothing.
+use mathlib.Core.Path.{_≡_, sym, ap, ap₂, _∙_}
+use mathlib.Core.Bool.{true}
+use mathlib.Core.List.{List}
+use Prim.Native.Nat.{ℕ, _+_, _-_, _*_, _≤_, _<_}
+use native.Mathlib.Omega.{arith}
+use lib.IntN.{ℤ, pos, natAbs}
+use lib.Ieee.{Float, nan}
+use lib.ListN.{length, getD, take}
+use Rattle.counting.specs.Paper.Lists.{listed, over}
+use Rattle.counting.specs.Places.{at}
+use Rattle.counting.proofs.Writes.{length-listed, getD-listed, listed-cong, length-over, getD-over-new, take-over, over-over}
+use Rattle.answers.specs.Paper.Answers.{Said, report, outcomeBy}
+use Rattle.packed_word.specs.Paper.Packed.{bitAt, bytesFor, pack, distance}
+use Rattle.packed_word.proofs.Packed.{length-pack, bitAt-pack, spare-pack, pack-cong}
+use Rattle.packed_word.proofs.Distances.{distance-cong, distance-spare}
+use Rattle.matrix.specs.Paper.Code.{Matrix}
+use Rattle.quantiser_levels.specs.Paper.Samples.{Setting, settingFits, largest, levelOf, levelsOf, hardBit}
+use Rattle.quantiser.specs.Buffers.{Filled}
+use Rattle.quantiser_settings.proofs.Ranges.{fits-reads, largest-most, level-bound, hard-bit-at}
+use Rattle.iterative_levels.specs.Levels.{biased, unbiased, Bounded, Biased, Restorable}
+use Rattle.iterative_levels.proofs.Levels.{biased-le}
+use Rattle.iterative_rounds.specs.Paper.Rounds.{endOf}
+use Rattle.iterative_core.specs.Paper.Iterative.{startOf, changedBits, endFrom, reportAt, iterativeWord, iterativeLevels}
+use Rattle.iterative_core.proofs.Changes.{changed-all}
+use Rattle.iterative_rounds.specs.Paper.Ends.{stateAt}
+use Rattle.iterative_rounds.specs.Alike.{Alike, AlikeEnds}
+use Rattle.iterative_rounds.specs.Runs.{stateOf, Holds, Ready, Stopped, Ran}
+use Rattle.iterative_core.specs.Calls.{CallLent, Started, Decoded}
+use Rattle.iterative_rounds.proofs.Ends.{levels-bound, end-state, ends-alike, failing-alike-end}
+use Rattle.iterative_rounds.proofs.States.{holds-word}
+use Rattle.iterative_rounds.proofs.Runs.{holds-alike, alike-holds}
+
+-- ---- step 1
+
+module _ (S : Setting) (xs : List Float) (ls ls′ : List ℤ) where
+  -- the level of sample j stands at place j
+  level-at : ls′ ≡ over (levelsOf S xs) ls → (j : ℕ) → j < length xs → getD ls′ j (pos 0) ≡ levelOf S (getD xs j nan)
+  unfolding levelsOf
+  level-at e j l =
+      let f : ℕ → ℤ = λ j. levelOf S (getD xs j nan) in
+      ap (λ (x : List ℤ). getD x j (pos 0)) e
+      ∙ getD-over-new (listed (length xs) f) ls j (pos 0) (omega (arith, length-listed (length xs) f))
+      ∙ getD-listed (length xs) f j (pos 0) l
+
+  pub levels-length : ls′ ≡ over (levelsOf S xs) ls → length xs ≤ length ls → length ls′ ≡ length ls
+  unfolding levelsOf
+  levels-length e h =
+      let f : ℕ → ℤ = λ j. levelOf S (getD xs j nan) in
+      ap length e ∙ length-over (listed (length xs) f) ls (omega (arith, length-listed (length xs) f))
+
+  -- so the levels can be kept
+  pub filled-bounded : settingFits S ≡ true → length xs ≤ 1023 → length xs ≤ length ls → ls′ ≡ over (levelsOf S xs) ls
+      → Bounded (length xs) (largest (S .bits)) ls′
+  filled-bounded fits few room e =
+      record {
+        columns = few;
+        room = omega (arith, levels-length e room);
+        largest = largest-most (S .bits) (fits-reads S fits .most);
+        within = λ j l. rw (level-at e j l) (level-bound S (getD xs j nan));
+      }
+
+  pub filled-started : (z₀ z x : List ℕ) → Filled S xs ls ls′ z₀ z → Biased (length xs) (largest (S .bits)) ls′ x → Started S xs ls ls′ z x
+  unfolding startOf
+  filled-started z₀ z x f b =
+      record {
+        levels = f .levels;
+        holds = record {
+          long-word = f .long;
+          long-levels = b .long;
+          word = f .each;
+          bit = λ j l. hard-bit-at xs j;
+          levels = λ j l. b .each j l ∙ ap (biased (largest (S .bits))) (level-at (f .levels) j l);
+          within = λ j l. level-bound S (getD xs j nan);
+        };
+      }
+
+-- ---- the levels of every state, from samples on
+
+pub start-bound : (S : Setting) (xs : List Float) (j : ℕ) → natAbs (startOf S xs .R j) ≤ largest (S .bits)
+unfolding startOf
+start-bound S xs j = level-bound S (getD xs j nan)
+
+pub states-bound : (H : Matrix) (S : Setting) (xs : List Float) (k j : ℕ) → natAbs (stateAt H (largest (S .bits)) (startOf S xs) k .R j) ≤ largest (S .bits)
+states-bound H S xs k j = levels-bound H (largest (S .bits)) (startOf S xs) j (start-bound S xs j) k
+
+pub end-bound : (H : Matrix) (S : Setting) (xs : List Float) (j : ℕ) → natAbs (endFrom H S xs .last .R j) ≤ largest (S .bits)
+unfolding endFrom
+end-bound H S xs j =
+    rw (end-state H (largest (S .bits)) (S .limit) (startOf S xs)) (states-bound H S xs (endOf H (largest (S .bits)) 0 (S .limit) (startOf S xs) .k) j)
+
+-- ---- packed words differ where their bits do: the spare places of both are clear
+
+packed-distance : (n : ℕ) (z c : ℕ → ℕ) → ((j : ℕ) → j < n → z j < 2) → ((j : ℕ) → j < n → c j < 2)
+    → distance (8 * bytesFor n) (bitAt (pack n z)) (bitAt (pack n c)) ≡ distance n z c
+packed-distance n z c hz hc =
+    let e : n + (8 * bytesFor n - n) ≡ 8 * bytesFor n = omega arith in
+    ap (λ (x : ℕ). distance x (bitAt (pack n z)) (bitAt (pack n c))) (sym e)
+    ∙ distance-spare n (8 * bytesFor n - n) (bitAt (pack n z)) (bitAt (pack n c)) (λ j l m. spare-pack n z hz j l ∙ sym (spare-pack n c hc j l))
+    ∙ distance-cong n (λ j l. bitAt-pack n z hz j l) (λ j l. bitAt-pack n c hc j l)
+
+-- the front of a buffer that a word was packed into
+packed-front : (n : ℕ) (z : ℕ → ℕ) (old new : List ℕ) → new ≡ over (pack n z) old → take (bytesFor n) new ≡ pack n z
+packed-front n z old new e =
+    ap (take (bytesFor n)) e ∙ ap (λ (k : ℕ). take k (over (pack n z) old)) (sym (length-pack n z)) ∙ take-over (pack n z) old
+
+-- which is as long as it was
+pub packed-room : (n : ℕ) (z : ℕ → ℕ) (old new : List ℕ) → new ≡ over (pack n z) old → bytesFor n ≤ length old → bytesFor n ≤ length new
+packed-room n z old new e h = omega (arith, ap length e, length-over (pack n z) old (omega (arith, length-pack n z)))
+
+-- ---- the whole of an accepted call
+
+module _ (H : Matrix) (S : Setting) (xs : List Float) (w : List ℕ) (ls : List ℤ) (lent : CallLent H S xs w ls) (ls₁ : List ℤ) (z x : List ℕ)
+    (start : Started S xs ls ls₁ z x) where
+  -- the arrays hold the start
+  holds-start : Holds (H .n) (largest (S .bits)) z x (startOf S xs)
+  holds-start = rw (lent .samples) at (start .holds)
+
+  start-ready : Ready H (largest (S .bits)) z x
+  start-ready =
+      let h = holds-start in
+      record {
+        matrix = lent .matrix;
+        largest = largest-most (S .bits) (fits-reads S (lent .setting) .most);
+        long-word = h .long-word;
+        long-levels = h .long-levels;
+        word = holds-word H (largest (S .bits)) z x (startOf S xs) h;
+        within = λ j l. omega (arith, h .levels j l, biased-le (largest (S .bits)) (startOf S xs .R j) (h .within j l));
+      }
+
+  start-bits : (j : ℕ) → j < H .n → at z j < 2
+  start-bits j l = omega (arith, holds-start .word j l, holds-start .bit j l)
+
+  module _ (z′ x′ : List ℕ) (k f : ℕ) (ran : Ran H (largest (S .bits)) (S .limit) z x z′ x′ k f) where
+    -- where the rounds stop is the end of the list from the samples
+    stopped : Stopped H (largest (S .bits)) (endFrom H S xs) z′ x′ k f
+    unfolding endFrom
+    stopped =
+        let L = largest (S .bits) in
+        let rows = lent .matrix .rows in
+        let like : Alike (H .n) (stateOf L z x) (startOf S xs) = holds-alike (H .n) L z x (startOf S xs) holds-start in
+        let e : AlikeEnds (H .n) (endOf H L 0 (S .limit) (stateOf L z x)) (endOf H L 0 (S .limit) (startOf S xs)) = ends-alike H L rows 0 (S .limit)
+        (stateOf L z x) (startOf S xs) like in
+        record {
+          holds = alike-holds (H .n) L z′ x′ _ _ (ran .holds) (e .last);
+          rounds = ran .rounds ∙ e .rounds;
+          fails = ran .fails ∙ failing-alike-end H L rows 0 (S .limit) (stateOf L z x) (startOf S xs) like;
+        }
+
+    stop-bits : (j : ℕ) → j < H .n → at z′ j < 2
+    stop-bits j l = omega (arith, stopped .holds .word j l, stopped .holds .bit j l)
+
+    stop-restorable : Restorable (H .n) (largest (S .bits)) x′ ls₁
+    stop-restorable =
+        record {
+          columns = lent .matrix .sizes .n-most;
+          room = omega (arith, levels-length S xs ls ls₁ (start .levels) (omega (arith, lent .samples, lent .room-levels)), lent .room-levels);
+          largest = largest-most (S .bits) (fits-reads S (lent .setting) .most);
+          within = λ j l. omega (arith, stopped .holds .levels j l, biased-le (largest (S .bits)) (endFrom H S xs .last .R j) (stopped .holds .within j l));
+        }
+
+    -- the levels that the arrays keep are those at the end
+    level-back : (j : ℕ) → j < H .n → unbiased (largest (S .bits)) x′ j ≡ endFrom H S xs .last .R j
+    unfolding stateOf
+    level-back j l = holds-alike (H .n) (largest (S .bits)) z′ x′ (endFrom H S xs .last) (stopped .holds) .levels j l
+
+    level-count : (f : ℕ → ℤ) → length (listed (H .n) f) ≡ length (levelsOf S xs)
+    unfolding levelsOf
+    level-count f = length-listed (H .n) f ∙ sym (lent .samples) ∙ sym (length-listed (length xs) (λ j. levelOf S (getD xs j nan)))
+
+    -- the answer, the word and the levels
+    counted : (hard₀ hard w′ : List ℕ) → hard ≡ over (pack (H .n) (at z)) hard₀ → w′ ≡ over (pack (H .n) (at z′)) w
+        → distance (8 * bytesFor (H .n)) (bitAt (take (bytesFor (H .n)) w′)) (bitAt (take (bytesFor (H .n)) hard)) ≡ changedBits H
+        (endFrom H S xs .last .z) (hardBit xs)
+    unfolding startOf
+    counted hard₀ hard w′ eh ew =
+        ap₂ (λ (a b : List ℕ). distance (8 * bytesFor (H .n)) (bitAt a) (bitAt b)) (packed-front (H .n) (at z′) w w′ ew)
+        (packed-front (H .n) (at z) hard₀ hard eh)
+        ∙ packed-distance (H .n) (at z′) (at z) stop-bits start-bits
+        ∙ distance-cong (H .n) (stopped .holds .word) (holds-start .word)
+        ∙ sym (changed-all H (endFrom H S xs .last .z) (hardBit xs))
+
+    reported : (changed : ℕ) (said : Said) → changed ≡ changedBits H (endFrom H S xs .last .z) (hardBit xs) → said ≡ report (outcomeBy f) k f changed
+        → said ≡ reportAt H (hardBit xs) (endFrom H S xs)
+    unfolding reportAt
+    reported changed said ec es = rw (es, ec, stopped .fails, stopped .rounds)
+
+    word-written : (w′ : List ℕ) → w′ ≡ over (pack (H .n) (at z′)) w → w′ ≡ over (iterativeWord H S xs) w
+    unfolding iterativeWord
+    word-written w′ e = e ∙ ap (λ (a : List ℕ). over a w) (pack-cong (H .n) (at z′) (endFrom H S xs .last .z) (stopped .holds .word))
+
+    levels-written : (ls′ : List ℤ) → ls′ ≡ over (listed (H .n) (unbiased (largest (S .bits)) x′)) ls₁ → ls′ ≡ over (iterativeLevels H S xs) ls
+    unfolding iterativeLevels
+    levels-written ls′ e =
+        let u : ℕ → ℤ = unbiased (largest (S .bits)) x′ in
+        e
+        ∙ ap (over (listed (H .n) u)) (start .levels)
+        ∙ over-over (listed (H .n) u) (levelsOf S xs) ls (level-count u)
+        ∙ ap (λ (a : List ℤ). over a ls) (listed-cong (H .n) u (endFrom H S xs .last .R) level-back)
+
+    decoded : (hard₀ hard w′ : List ℕ) (ls′ : List ℤ) (changed : ℕ) (said : Said) → hard ≡ over (pack (H .n) (at z)) hard₀ → w′ ≡ over (pack (H .n) (at z′)) w
+        → ls′ ≡ over (listed (H .n) (unbiased (largest (S .bits)) x′)) ls₁
+        → changed ≡ distance (8 * bytesFor (H .n)) (bitAt (take (bytesFor (H .n)) w′)) (bitAt (take (bytesFor (H .n)) hard))
+        → said ≡ report (outcomeBy f) k f changed → Decoded H S xs said w w′ ls ls′
+    decoded hard₀ hard w′ ls′ changed said eh ew el ec es =
+        record {
+          answer = reported changed said (ec ∙ counted hard₀ hard w′ eh ew) es;
+          word = word-written w′ ew;
+          levels = levels-written ls′ el;
+        }
+
+-- ---- the same for a caller that knows the largest level by another name
+
+module _ {H : Matrix} {S : Setting} {xs : List Float} {w : List ℕ} {ls ls₁ : List ℤ} {z x : List ℕ} {L : ℕ}
+    (lent : CallLent H S xs w ls) (start : Started S xs ls ls₁ z x) (e : L ≡ largest (S .bits)) where
+  pub call-ready : Ready H L z x
+  call-ready = rw e (start-ready H S xs w ls lent ls₁ z x start)
+
+  pub call-hard : (j : ℕ) → j < H .n → at z j < 2
+  call-hard = start-bits H S xs w ls lent ls₁ z x start
+
+  module _ {z′ x′ : List ℕ} {k f : ℕ} (ran : Ran H L (S .limit) z x z′ x′ k f) where
+    by-largest : Ran H (largest (S .bits)) (S .limit) z x z′ x′ k f
+    by-largest = rw e at ran
+
+    pub call-bits : (j : ℕ) → j < H .n → at z′ j < 2
+    call-bits = stop-bits H S xs w ls lent ls₁ z x start z′ x′ k f by-largest
+
+    pub call-restorable : Restorable (H .n) L x′ ls₁
+    call-restorable = rw e (stop-restorable H S xs w ls lent ls₁ z x start z′ x′ k f by-largest)
+
+    pub call-decoded : (hard₀ : List ℕ) {hard w′ : List ℕ} {ls′ : List ℤ} {changed : ℕ} {said : Said} → hard ≡ over (pack (H .n) (at z)) hard₀
+        → w′ ≡ over (pack (H .n) (at z′)) w
+        → ls′ ≡ over (listed (H .n) (unbiased L x′)) ls₁
+        → changed ≡ distance (8 * bytesFor (H .n)) (bitAt (take (bytesFor (H .n)) w′)) (bitAt (take (bytesFor (H .n)) hard))
+        → said ≡ report (outcomeBy f) k f changed → Decoded H S xs said w w′ ls ls′
+    call-decoded hard₀ {hard} {w′} {ls′} {changed} {said} eh ew el = decoded H S xs w ls lent ls₁ z x start z′ x′ k f by-largest hard₀ hard w′ ls′
+        changed said eh ew (rw e at el)

@@ -1,0 +1,109 @@
+-- The loop of `run`: what holds after k rounds, how a round carries it on, and what it says where the loop stops. Assumes nothing.
+use mathlib.Core.Path.{_≡_, refl, sym, ap, _∙_}
+use mathlib.Core.List.{List}
+use Prim.Native.Nat.{ℕ, _+_, _≤_, _<_}
+use native.Mathlib.Numerals.{add-one}
+use native.Mathlib.Decide.{ℕ-discrete}
+use native.Mathlib.Omega.{arith}
+use lib.IntN.{subℕ}
+use Rattle.counting.proofs.Integers.{abs-sub}
+use Rattle.counting.specs.Places.{at}
+use Rattle.matrix.specs.Paper.Code.{Matrix, Word, failing}
+use Rattle.matrix.proofs.Rows.{failing-cong}
+use Rattle.iterative_tally.specs.Parities.{Retallied}
+use Rattle.iterative_rounds.specs.Paper.Rounds.{State}
+use Rattle.iterative_levels.specs.Levels.{biased, unbiased, Moved}
+use Rattle.iterative_rounds.specs.Paper.Ends.{stateAt}
+use Rattle.iterative_rounds.specs.Alike.{Alike}
+use Rattle.iterative_rounds.specs.Runs.{stateOf, Holds, Ready, Rounded, Ran}
+use Rattle.iterative_levels.proofs.Levels.{biased-le, biased-back, back-biased, above-middle-bit}
+use Rattle.iterative_rounds.proofs.Ends.{end-at}
+use Rattle.iterative_rounds.proofs.States.{holds-word, round-holds}
+
+-- ---- the state that arrays stand for
+
+pub ready-holds : (H : Matrix) (L : ℕ) (z x : List ℕ) → Ready H L z x → Holds (H .n) L z x (stateOf L z x)
+unfolding stateOf unbiased Word
+ready-holds H L z x r =
+    record {
+      long-word = r .long-word;
+      long-levels = r .long-levels;
+      word = λ j l. refl;
+      bit = λ j l. r .word j l;
+      levels = λ j l. sym (back-biased L (at x j));
+      within = λ j l. abs-sub (at x j) L L (omega (arith, r .within j l)) (omega arith);
+    }
+
+-- arrays that hold a state stand for one like it
+pub holds-alike : (n L : ℕ) (z x : List ℕ) (s : State) → Holds n L z x s → Alike n (stateOf L z x) s
+unfolding stateOf unbiased
+holds-alike n L z x s h =
+    record { word = h .word; levels = λ j l. ap (λ (y : ℕ). subℕ y L) (h .levels j l) ∙ biased-back L (s .R j) (h .within j l) }
+
+pub alike-holds : (n L : ℕ) (z x : List ℕ) (s t : State) → Holds n L z x s → Alike n s t → Holds n L z x t
+alike-holds n L z x s t h a =
+    record {
+      long-word = h .long-word;
+      long-levels = h .long-levels;
+      word = λ j l. h .word j l ∙ a .word j l;
+      bit = λ j l. rw (a .word j l) at (h .bit j l);
+      levels = λ j l. h .levels j l ∙ ap (biased L) (a .levels j l);
+      within = λ j l. rw (a .levels j l) at (h .within j l);
+    }
+
+-- they are ready for a round
+pub holds-ready : (H : Matrix) (L : ℕ) (z x : List ℕ) (s : State) (z₀ x₀ : List ℕ) → Ready H L z₀ x₀ → Holds (H .n) L z x s → Ready H L z x
+holds-ready H L z x s z₀ x₀ r h =
+    record {
+      matrix = r .matrix;
+      largest = r .largest;
+      long-word = h .long-word;
+      long-levels = h .long-levels;
+      word = holds-word H L z x s h;
+      within = λ j l. omega (arith, h .levels j l, biased-le L (s .R j) (h .within j l));
+    }
+
+-- the bits after a pass are a word
+pub moved-word : (H : Matrix) (v : List ℕ) (gamma L ceiling : ℕ) (z x z′ x′ : List ℕ) → Moved v (H .n) gamma L ceiling z x z′ x′ → Word H (at z′)
+unfolding Word
+moved-word H v gamma L ceiling z x z′ x′ m j l = omega (arith, m .bits j l, above-middle-bit L (at x′ j))
+
+-- ---- the invariant
+
+pub record Going (H : Matrix) (L limit : ℕ) (s : State) (z x p v : List ℕ) (f k : ℕ) : Type 0 where
+  pub within : k ≤ limit
+  pub holds : Holds (H .n) L z x (stateAt H L s k)
+  pub tallied : Retallied H (at z) p v f
+  pub earlier : (t : ℕ) → t < k → 0 < failing H (stateAt H L s t .z)
+
+module _ (H : Matrix) (L limit : ℕ) (z₀ x₀ : List ℕ) (r : Ready H L z₀ x₀) where
+  pub going-starts : (p v : List ℕ) (f : ℕ) → Retallied H (at z₀) p v f → Going H L limit (stateOf L z₀ x₀) z₀ x₀ p v f 0
+  unfolding stateAt
+  going-starts p v f t =
+      record { within = omega arith; holds = ready-holds H L z₀ x₀ r; tallied = t; earlier = λ i h. absurd (omega arith) }
+
+  module _ (z x p v : List ℕ) (f k : ℕ) (g : Going H L limit (stateOf L z₀ x₀) z x p v f k) where
+    now-fails : f ≡ failing H (stateAt H L (stateOf L z₀ x₀) k .z)
+    now-fails = g .tallied .tallied .count ∙ failing-cong H (r .matrix .rows) (at z) (stateAt H L (stateOf L z₀ x₀) k .z) (g .holds .word)
+
+    pub going-ready : Ready H L z x
+    going-ready = holds-ready H L z x (stateAt H L (stateOf L z₀ x₀) k) z₀ x₀ r (g .holds)
+
+    -- the loop stops here
+    pub going-ends : (0 < f → k ≡ limit) → Ran H L limit z₀ x₀ z x k f
+    going-ends stop =
+        rw (end-at H L limit k (stateOf L z₀ x₀) (g .within) (g .earlier) (λ h. stop (omega (arith, now-fails))))
+        (record { holds = g .holds; rounds = refl; fails = now-fails })
+
+    -- one round more
+    pub going-step : 0 < f → k < limit → (z′ x′ p′ v′ : List ℕ) (f′ : ℕ) → Rounded H L v z x z′ x′ p′ v′ f′
+        → Going H L limit (stateOf L z₀ x₀) z′ x′ p′ v′ f′ (k + 1)
+    unfolding stateAt
+    going-step h l z′ x′ p′ v′ f′ t =
+        rw (add-one k)
+        (record {
+          within = omega arith;
+          holds = round-holds H (r .matrix) L (stateAt H L (stateOf L z₀ x₀) k) v z x z′ x′ (g .holds) (g .tallied .tallied .each) (t .moved);
+          tallied = t .tallied;
+          earlier = λ i q. elim (ℕ-discrete i k) [ yes e ↦ rw e (omega (arith, now-fails)) | no ne ↦ g .earlier i (omega arith) ];
+        })

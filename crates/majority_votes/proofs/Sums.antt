@@ -1,0 +1,105 @@
+-- Laws of votes added row by row: one column more, one row more, and what all failing rows add. Assumes nothing.
+use mathlib.Core.Path.{_≡_, sym, _∙_}
+use mathlib.Core.List.{List}
+use mathlib.Core.Logic.{inl, inr}
+use Prim.Native.Nat.{ℕ, _+_, _*_, _<_, _≤_}
+use native.Mathlib.Nat.{mul-comm}
+use native.Mathlib.Numerals.{add-one}
+use native.Mathlib.Omega.{arith}
+use lib.ListN.{length, set, replicate, length-set, length-replicate}
+use Rattle.counting.specs.Paper.Sum.{sumBelow, same}
+use Rattle.counting.specs.Places.{at, among}
+use Rattle.counting.proofs.Sums.{sum-cong, sum-next, same-refl, same-ne}
+use Rattle.counting.proofs.Writes.{stored, zeros}
+use Rattle.matrix.specs.Paper.Code.{Matrix, entry, has, fails, failing}
+use Rattle.matrix.specs.Paper.PlainCheck.{Accepted}
+use Rattle.syndrome.specs.Places.{Places}
+use Rattle.syndrome.proofs.Parity.{row-part}
+use Rattle.syndrome.proofs.Lists.{places-sum}
+use Rattle.majority_logic.specs.Paper.Votes.{votes}
+use Rattle.majority_logic.proofs.Correction.{votes-small}
+use Rattle.majority_votes.specs.Tallies.{ofRows, Room, Parts, More, Tallied}
+
+-- ---- one row
+
+-- nothing is added yet
+pub among-none : (l : List ℕ) (from : ℕ) (v : List ℕ) → length v ≡ 1023 → More (among l from 0) v v
+unfolding among sumBelow
+among-none l from v e = record { long = e; each = λ j. omega arith }
+
+-- a column that is still to be voted for has room for its vote
+pub among-next : (l : List ℕ) (from count k : ℕ) → k < count → among l from k (at l (from + k)) + 1 ≤ among l from count (at l (from + k))
+unfolding among
+among-next l from count k h =
+    omega (arith, sum-next k count (λ q. same (at l (from + q)) (at l (from + k))) h, same-refl (at l (from + k)))
+
+-- one column more
+pub among-step : (l : List ℕ) (from k : ℕ) (old new : List ℕ) → at l (from + k) < 1023 → More (among l from k) old new
+    → More (among l from (k + 1)) old (set new (at l (from + k)) (at new (at l (from + k)) + 1))
+unfolding among sumBelow
+among-step l from k old new h t =
+    rw (add-one k)
+    record {
+      long = length-set new x (at new x + 1) ∙ t .long;
+      each = λ j. elim (stored new x (at new x + 1) j (omega (arith, h, t .long))) [
+        | inl e ↦ rw (e .1) (omega (arith, rw (e .1) at (e .0), t .each x, same-refl x))
+        | inr e ↦ omega (arith, e .0, t .each j, same-ne x j (λ q. e .1 (sym q)))
+      ];
+    }
+  where
+    x : ℕ
+    x = at l (from + k)
+
+-- ---- the listed rows
+
+pub rows-none : (l : List ℕ) (rho : ℕ) (rows v : List ℕ) → length v ≡ 1023 → More (ofRows l rho rows 0) v v
+unfolding ofRows sumBelow
+rows-none l rho rows v e = record { long = e; each = λ j. omega arith }
+
+-- the next row has room for its votes
+pub rows-next : (l : List ℕ) (rho : ℕ) (rows : List ℕ) (t q : ℕ) (old mid : List ℕ) → q < t → Room (ofRows l rho rows t) old
+    → More (ofRows l rho rows q) old mid
+    → Room (among l (at rows q * rho) rho) mid
+unfolding ofRows
+rows-next l rho rows t q old mid h r m =
+    record { long = m .long; fits = λ j. omega (arith, m .each j, r .fits j, sum-next q t (λ p. among l (at rows p * rho) rho j) h) }
+
+-- one row more
+pub rows-step : (l : List ℕ) (rho : ℕ) (rows : List ℕ) (q : ℕ) (old mid new : List ℕ) → More (ofRows l rho rows q) old mid
+    → More (among l (at rows q * rho) rho) mid new
+    → More (ofRows l rho rows (q + 1)) old new
+unfolding ofRows sumBelow
+rows-step l rho rows q old mid new t u =
+    rw (add-one q) record { long = u .long; each = λ j. omega (arith, t .each j, u .each j) }
+
+-- ---- all failing rows
+
+module _ (H : Matrix) (a : Accepted H) (z : ℕ → ℕ) (rows : List ℕ) (t : ℕ) (p : Places (fails H z) (H .m) rows t) where
+  -- they are rows of the list
+  pub failing-parts : Parts (H .list) (H .rho) rows t
+  failing-parts =
+      record {
+        few = omega (arith, p .few, a .sizes .m-most);
+        below = λ q h. omega (arith, p .below q h, a .sizes .m-most);
+        part = λ q h. row-part H a (at rows q) (p .below q h);
+      }
+
+  -- what they add is the votes
+  pub failing-votes : (j : ℕ) → ofRows (H .list) (H .rho) rows t j ≡ votes H z j
+  unfolding ofRows among votes has entry
+  failing-votes j =
+      places-sum (fails H z) (H .m) rows t p (λ i. has H i j)
+      ∙ sum-cong (H .m) (λ i h. mul-comm (fails H z i) (has H i j))
+
+  -- which fit a cleared array
+  pub failing-room : Room (ofRows (H .list) (H .rho) rows t) (replicate 1023 0)
+  failing-room =
+      record {
+        long = length-replicate {A = ℕ} 1023 0;
+        fits = λ j. omega (arith, zeros 1023 j, failing-votes j, votes-small H a z j);
+      }
+
+  pub tallied : (v : List ℕ) → More (ofRows (H .list) (H .rho) rows t) (replicate 1023 0) v → Tallied H z v t
+  unfolding failing
+  tallied v m =
+      record { long = m .long; each = λ j. omega (arith, m .each j, zeros 1023 j, failing-votes j); count = p .total }

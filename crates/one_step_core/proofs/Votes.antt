@@ -1,0 +1,63 @@
+-- The vote on an unpacked word is the definition's. Assumes nothing.
+use mathlib.Core.Path.{_≡_, sym, ap, _∙_}
+use mathlib.Core.List.{List}
+use Prim.Native.Nat.{ℕ, _*_, _<_}
+use native.Mathlib.Omega.{arith}
+use lib.Dec.{ltb}
+use borrow.Author.Tests.{eq-eqb, ne-eqb}
+use Rattle.counting.specs.Places.{at}
+use Rattle.matrix.specs.Paper.Code.{Matrix, Word, failing}
+use Rattle.matrix.specs.Paper.PlainCheck.{Accepted}
+use Rattle.matrix.proofs.Rows.{failing-cong}
+use Rattle.majority_logic.specs.Paper.Votes.{flipWhen}
+use Rattle.majority_logic.specs.Paper.OneStep.{stepWord, stepRounds}
+use Rattle.majority_logic.proofs.Correction.{flipped-by, stepWord-flipped, stepWord-bit}
+use Rattle.majority_votes.specs.Tallies.{Tallied}
+use Rattle.majority_flips.specs.Flips.{Voted}
+use Rattle.one_step_core.specs.Stepped.{Stepped}
+
+-- the rounds of a word with and without failing checks
+rounds-none : (H : Matrix) (z : ℕ → ℕ) → failing H z ≡ 0 → stepRounds H z ≡ 0
+unfolding stepRounds
+rounds-none H z e = rw (eq-eqb (failing H z) 0 e)
+
+rounds-one : (H : Matrix) (z : ℕ → ℕ) → (failing H z ≡ 0 → ⊥) → stepRounds H z ≡ 1
+unfolding stepRounds
+rounds-one H z ne = rw (ne-eqb (failing H z) 0 ne)
+
+-- a word without a failing check stays
+word-kept : (H : Matrix) (z : ℕ → ℕ) → failing H z ≡ 0 → (j : ℕ) → stepWord H z j ≡ z j
+unfolding stepWord
+word-kept H z e j = rw (eq-eqb (failing H z) 0 e)
+
+module _ (H : Matrix) (a : Accepted H) (bits v : List ℕ) (f : ℕ) (t : Tallied H (at bits) v f) where
+  -- no check fails: nothing moves
+  pub stepped-clean : f ≡ 0 → Stepped H (at bits) bits 0 0
+  stepped-clean e =
+      let z : failing H (at bits) ≡ 0 = sym (t .count) ∙ e in
+      record {
+        each = λ j h. sym (word-kept H (at bits) z j);
+        rounds-are = sym (rounds-none H (at bits) z);
+        failing-are = sym (failing-cong H (a .rows) (stepWord H (at bits)) (at bits) (λ j h. word-kept H (at bits) z j) ∙ z);
+      }
+
+  -- the bits after the flips
+  voted-word : (new : List ℕ) → Voted (H .n) (H .gamma) v bits new → (j : ℕ) → j < H .n → at new j ≡ stepWord H (at bits) j
+  voted-word new w j h =
+      w .each j h
+      ∙ ap (λ (x : ℕ). flipWhen (ltb (H .gamma) (2 * x)) (at bits j)) (t .each j)
+      ∙ sym (flipped-by H a (at bits) j h)
+      ∙ ap (λ (g : ℕ → ℕ). g j) (sym (stepWord-flipped H (at bits)))
+
+  pub voted-bits : (new : List ℕ) → Voted (H .n) (H .gamma) v bits new → Word H (at bits) → Word H (at new)
+  unfolding Word
+  voted-bits new w b j h = omega (arith, voted-word new w j h, stepWord-bit H (at bits) b j h)
+
+  -- some check fails: the bits are flipped, and the checks counted again
+  pub stepped-voted : (new : List ℕ) (g : ℕ) → (f ≡ 0 → ⊥) → Voted (H .n) (H .gamma) v bits new → g ≡ failing H (at new) → Stepped H (at bits) new 1 g
+  stepped-voted new g ne w e =
+      record {
+        each = voted-word new w;
+        rounds-are = sym (rounds-one H (at bits) (λ z. ne (t .count ∙ z)));
+        failing-are = e ∙ failing-cong H (a .rows) (at new) (stepWord H (at bits)) (voted-word new w);
+      }

@@ -1,0 +1,47 @@
+-- One call: what a refused one and an accepted one leave, and that the words they leave are bits.
+--   refused-open-keeps, refused-step-keeps   == a refused call leaves everything, and says its refusal
+--   accepted-opens, accepted-steps           == an accepted one says and leaves what its definition gives
+--   start-bits, round-bits                   == the words that opening and a round leave are bits
+-- Assumes nothing.
+use mathlib.Core.Path.{_≡_}
+use mathlib.Core.List.{List}
+use Prim.Native.Nat.{ℕ, _<_}
+use lib.Ieee.{Float}
+use Rattle.answers.specs.Paper.Answers.{accepted, refused, refusal}
+use Rattle.matrix.specs.Paper.Code.{Matrix}
+use Rattle.quantiser_levels.specs.Paper.Samples.{Setting}
+use Rattle.quantiser_settings.proofs.Ranges.{hard-bit-at}
+use Rattle.iterative_rounds.specs.Paper.Rounds.{State, levelAfter, roundOf}
+use Rattle.iterative_core.specs.Paper.Iterative.{startOf}
+use Rattle.iterative_levels.proofs.Levels.{above-bit}
+use Rattle.session_asking.specs.Paper.Asked.{Held, openVerdict, stepVerdict}
+use Rattle.session.specs.Paper.Steps.{openedLeft, openOf, steppedLeft, stepOf}
+
+-- a refused call leaves everything, and says its refusal
+pub refused-open-keeps : (H : Matrix) (S : Setting) (xs : List Float) (h : Held) (k x : ℕ) → openVerdict H S xs h ≡ refused k x
+    → openOf H S xs h ≡ record { said = refusal k x; held = h }
+unfolding openOf
+refused-open-keeps H S xs h k x e = rw e
+
+pub refused-step-keeps : (H : Matrix) (w : List ℕ) (h : Held) (k x : ℕ) → stepVerdict H w h ≡ refused k x
+    → stepOf H w h ≡ record { said = refusal k x; held = h }
+unfolding stepOf
+refused-step-keeps H w h k x e = rw e
+
+-- what an accepted one leaves
+pub accepted-opens : (H : Matrix) (S : Setting) (xs : List Float) (h : Held) → openVerdict H S xs h ≡ accepted → openOf H S xs h ≡ openedLeft H S xs h
+unfolding openOf
+accepted-opens H S xs h e = rw e
+
+pub accepted-steps : (H : Matrix) (w : List ℕ) (h : Held) → stepVerdict H w h ≡ accepted → stepOf H w h ≡ steppedLeft H w h
+unfolding stepOf
+accepted-steps H w h e = rw e
+
+-- the bits of the states that calls write
+pub start-bits : (S : Setting) (xs : List Float) (j : ℕ) → startOf S xs .z j < 2
+unfolding startOf
+start-bits S xs j = hard-bit-at xs j
+
+pub round-bits : (H : Matrix) (L : ℕ) (s : State) (j : ℕ) → roundOf H L s .z j < 2
+unfolding roundOf
+round-bits H L s j = above-bit (levelAfter H L s j)

@@ -1,0 +1,82 @@
+-- Laws of lists of places: one place more is looked at, and a sum over a list of places. Assumes nothing.
+use mathlib.Core.Path.{_≡_, refl, sym, ap, _∙_}
+use mathlib.Core.List.{List}
+use Prim.Native.Nat.{ℕ, zero, suc, _+_, _*_, _<_}
+use native.Mathlib.Nat.{add-zero}
+use native.Mathlib.Numerals.{add-one}
+use native.Mathlib.Decide.{ℕ-discrete}
+use native.Mathlib.Omega.{arith}
+use lib.ListN.{length, set, length-set}
+use lib.Seq.{getD-set-same, getD-set-other}
+use Rattle.counting.specs.Paper.Sum.{sumBelow, same}
+use Rattle.counting.specs.Places.{at}
+use Rattle.counting.proofs.Sums.{sum-cong, sum-zero, sum-swap, sum-pick, sum-mul-right, same-refl, same-ne}
+use Rattle.syndrome.specs.Places.{Places}
+
+-- no place is looked at yet
+pub places-none : (f : ℕ → ℕ) (l : List ℕ) → length l ≡ 1023 → Places f 0 l 0
+unfolding sumBelow
+places-none f l e =
+    record { long = e; few = omega arith; below = λ q h. absurd (omega arith); each = λ x h. absurd (omega arith); total = refl }
+
+module _ (f : ℕ → ℕ) (i : ℕ) (l : List ℕ) (t : ℕ) (p : Places f i l t) (room : i < 1023) where
+  -- the place i, written behind the list
+  abbrev next : List ℕ
+  next = set l t i
+
+  written : at next t ≡ i
+  written = getD-set-same l t i 0 (omega (arith, p .few, p .long))
+
+  kept : (q : ℕ) → q < t → at next q ≡ at l q
+  kept q h = getD-set-other l t q i 0 (λ e. omega arith)
+
+  kept-sum : (x : ℕ) → sumBelow t (λ q. same (at next q) x) ≡ sumBelow t (λ q. same (at l q) x)
+  kept-sum x = sum-cong t (λ q h. ap (λ (y : ℕ). same y x) (kept q h))
+
+  fresh : sumBelow t (λ q. same (at l q) i) ≡ 0
+  fresh = sum-zero t (λ q h. same-ne (at l q) i (λ e. omega (arith, p .below q h)))
+
+  -- it is not counted, and the next place is written over it
+  left-out : f i ≡ 0 → Places f (i + 1) next (t + 0)
+  unfolding sumBelow
+  left-out e =
+      rw (add-zero t, add-one i)
+      record {
+        long = length-set l t i ∙ p .long;
+        few = omega (arith, p .few);
+        below = λ q h. omega (arith, kept q h, p .below q h);
+        each = λ x h. kept-sum x ∙ elim (ℕ-discrete x i) [ yes q ↦ rw q (fresh ∙ sym e) | no ne ↦ p .each x (omega arith) ];
+        total = omega (arith, p .total);
+      }
+
+  -- it is counted
+  taken-in : f i ≡ 1 → Places f (i + 1) next (t + 1)
+  unfolding sumBelow
+  taken-in e =
+      rw (add-one t, add-one i)
+      record {
+        long = length-set l t i ∙ p .long;
+        few = omega (arith, p .few);
+        below = λ q h. elim (ℕ-discrete q t) [
+          | yes g ↦ omega (arith, ap (at next) g, written)
+          | no ne ↦ let b : q < t = omega arith in omega (arith, kept q b, p .below q b)
+        ];
+        each = λ x h. elim (ℕ-discrete x i) [
+          | yes q ↦ rw q (omega (arith, kept-sum i, fresh, ap (λ (y : ℕ). same y i) written, same-refl i))
+          | no ne ↦ omega (arith, kept-sum x, p .each x (omega arith), ap (λ (y : ℕ). same y x) written, same-ne i x (λ q. ne (sym q)))
+        ];
+        total = omega (arith, p .total);
+      }
+
+  -- one place more
+  pub places-step : (x : ℕ) → x ≡ f i → x < 2 → Places f (i + 1) next (t + x)
+  places-step zero e h = left-out (sym e)
+  places-step (suc zero) e h = taken-in (sym e)
+  places-step (suc (suc x)) e h = absurd (omega arith)
+
+-- a sum over a list of places is one over all places
+pub places-sum : (f : ℕ → ℕ) (m : ℕ) (l : List ℕ) (t : ℕ) → Places f m l t → (g : ℕ → ℕ) → sumBelow t (λ q. g (at l q)) ≡ sumBelow m (λ x. f x * g x)
+places-sum f m l t p g =
+    sum-cong t (λ q h. sym (sum-pick m g (at l q) (p .below q h)))
+    ∙ sum-swap t m (λ q x. same (at l q) x * g x)
+    ∙ sum-cong m (λ x h. sum-mul-right t (g x) (λ q. same (at l q) x) ∙ ap (λ (y : ℕ). y * g x) (p .each x h))
