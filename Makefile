@@ -9,16 +9,18 @@ MATRIX ?= examples/tanner155.alist
 SAMPLES ?= examples/blocks.csv
 SETTING ?= bits 8 limit 64 level-step 0.1
 RESULTS ?= build/results.csv
+MAP ?= $(basename $(RESULTS)).svg
 
-# Decodes SAMPLES by MATRIX and SETTING, the example block set without them, into the table RESULTS.
+# Decodes SAMPLES by MATRIX and SETTING, the example block set without them, into the table RESULTS and its picture MAP.
 # Blocks that stay open (status 1) are no fault.
 run: tools
-	@echo "The first run proves and builds all it needs, which takes about two minutes (build/run.log tells how far it is); later runs take seconds."
+	@echo "The first run proves and builds all it needs, which takes about three minutes (build/run.log tells how far it is); later runs take seconds."
 	@mkdir -p build && rt check decode ffi_codes session_open session_step one_step failing_checks >build/run.log || { cat build/run.log; exit 1; }
 	@$(MAKE) --no-print-directory target/staticlib/libffi.a mlgd >>build/run.log || { cat build/run.log; exit 1; }
 	build/release/mlgd decode --matrix "$(MATRIX)" --setting "$(SETTING)" --samples "$(SAMPLES)" --out "$(RESULTS)" || test $$? -eq 1
-	@if build/release/mlgd map --help >/dev/null 2>&1; then build/release/mlgd map "$(RESULTS)" --out "$(RESULTS:.csv=.svg)"; fi
+	build/release/mlgd map "$(RESULTS)" --out "$(MAP)"
 	@head -n 20 "$(RESULTS)"
+	@echo "The table is $(RESULTS), for a spreadsheet; its map is $(MAP), for a browser."
 
 # The layout, the drawn pages, the gate from nothing, then the Rust tests on what it proved: its 'N passed, 0 failed' is the last line.
 test: tools

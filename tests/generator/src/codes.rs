@@ -185,7 +185,8 @@ pub fn array_code_off_diagonal(p: usize) -> Code {
     quasi_cyclic(format!("array {p} × {p} off the diagonal"), p, &blocks)
 }
 
-/// QC961: n = m = 961, weights 30.
+/// QC961: n = m = 961, weights 30. Its size and weights are those of document 003's example 2, its
+/// dimension is not: see [`qc961_721`].
 pub fn qc961() -> Code {
     Code {
         name: "QC961".into(),
@@ -205,6 +206,7 @@ fn powers(degree: usize) -> Vec<usize> {
     let primitive: usize = match degree {
         3 => 0b1011,
         4 => 0b1_0011,
+        5 => 0b10_0101,
         6 => 0b100_0011,
         8 => 0b1_0001_1101,
         9 => 0b10_0001_0001,
@@ -223,6 +225,30 @@ fn powers(degree: usize) -> Vec<usize> {
             return powers;
         }
         powers.push(next);
+    }
+}
+
+/// The array over GF(q), q = 2^s: (q - 1) × (q - 1) circulants of size q - 1, the one at (i, j)
+/// shifted by the logarithm of the sum of the i-th and j-th powers, with blocks of zeros on the
+/// diagonal: weights q - 2.
+///
+/// A row less a row moved by any shift vanishes in at most one place, as α^i + α^j is a line in
+/// α^j: so two rows share at most one column.
+pub fn field_array(s: usize) -> Code {
+    let powers = powers(s);
+    let logarithm = |sum: usize| powers.iter().position(|&power| power == sum);
+    let blocks: Vec<Vec<Option<usize>>> = powers
+        .iter()
+        .map(|a| powers.iter().map(|b| logarithm(a ^ b)).collect())
+        .collect();
+    quasi_cyclic(format!("array over GF({})", 1 << s), powers.len(), &blocks)
+}
+
+/// Document 003's example 2: the (961, 721) code, n = m = 961, weights 30.
+pub fn qc961_721() -> Code {
+    Code {
+        name: "QC961 (961, 721)".into(),
+        ..field_array(5)
     }
 }
 

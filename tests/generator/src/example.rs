@@ -1,7 +1,7 @@
 //! The files in examples/: Tanner's code as an alist file, and a dozen of its codewords received
-//! with noise.
+//! with noise; and document 003's (961, 721) code as an alist file.
 
-use crate::codes::{tanner155, Code};
+use crate::codes::{qc961_721, tanner155, Code};
 use crate::{alist, noise, settings, stream, Codewords, Random};
 use reference::Setting;
 
@@ -57,7 +57,7 @@ pub fn input() -> Vec<u8> {
 }
 
 /// The files, by name.
-pub fn files() -> [(&'static str, String); 3] {
+pub fn files() -> [(&'static str, String); 4] {
     let csv = sent_and_written()
         .iter()
         .map(|(_, written)| written.join(",") + "\n")
@@ -67,5 +67,6 @@ pub fn files() -> [(&'static str, String); 3] {
         ("tanner155.alist", alist::text(&code())),
         ("blocks.csv", csv),
         ("expected.txt", expected),
+        ("qc961.alist", alist::text(&qc961_721())),
     ]
 }

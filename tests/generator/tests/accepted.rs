@@ -38,6 +38,12 @@ fn known_codes_have_their_sizes_and_dimensions() {
     assert_eq!(sizes(&codes::qc961()), [961, 961, 30, 30]);
     assert_eq!(sizes(&codes::tanner155()), [155, 93, 5, 3]);
     assert_eq!(dimension(&codes::tanner155()), 64);
+    let example_2 = codes::qc961_721();
+    assert_eq!(check(&example_2.matrix), Ok(()));
+    assert_eq!(sizes(&example_2), [961, 961, 30, 30]);
+    assert_eq!(dimension(&example_2), 721);
+    // The other array of the same sizes has another dimension.
+    assert_eq!(dimension(&codes::qc961()), 31);
     assert_eq!(dimension(&codes::code_a()), 3);
     assert_eq!(dimension(&codes::code_b()), 4);
     for s in 2..=5 {

@@ -33,7 +33,7 @@ fn the_files_are_as_generated() {
 /// was sent.
 #[test]
 fn the_blocks_show_every_end() {
-    let [_, _, (_, expected)] = example::files();
+    let [_, _, (_, expected), _] = example::files();
     let (mut at_once, mut later, mut failed) = (0, 0, 0);
     for (line, sent) in expected.lines().skip(1).zip(example::sent()) {
         let fields: Vec<&str> = line.split(' ').collect();

@@ -87,6 +87,14 @@ impl Arguments {
         Fault::usage(self.command, what)
     }
 
+    /// Refuses options that make no sense beside another one.
+    pub fn refuse_beside(&self, names: &[&str], other: &str) -> Result<(), Fault> {
+        match names.iter().find(|name| self.value(name).is_some()) {
+            Some(name) => Err(self.misused(format!("{name} does not go with {other}"))),
+            None => Ok(()),
+        }
+    }
+
     pub fn flag(&self, name: &str) -> bool {
         self.flags.contains(&name)
     }
@@ -100,6 +108,12 @@ impl Arguments {
     pub fn needed(&self, name: &str) -> Result<&str, Fault> {
         self.value(name)
             .ok_or_else(|| self.misused(format!("{name} is missing")))
+    }
+
+    /// A whole number within a range, which must be there.
+    pub fn needed_number(&self, name: &str, range: RangeInclusive<usize>) -> Result<usize, Fault> {
+        self.needed(name)?;
+        self.number(name, range, 0)
     }
 
     /// A whole number within a range, or what holds without the option.
@@ -168,5 +182,8 @@ mod tests {
         let fault = arguments.number("--jobs", 1..=8, 1).unwrap_err();
         assert!(fault.to_string().contains("--jobs is 1 to 8, and not `9`"));
         assert!(arguments.needed("--matrix").is_err());
+        assert!(arguments.needed_number("--jobs", 1..=8).is_err());
+        assert_eq!(arguments.needed_number("--jobs", 1..=9).unwrap(), 9);
+        assert!(read("").unwrap().needed_number("--jobs", 1..=9).is_err());
     }
 }

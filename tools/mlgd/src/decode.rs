@@ -4,14 +4,14 @@ use crate::arguments::{asks_help, Arguments, Known};
 use crate::fault::Fault;
 use crate::matrix_file::{Matrix, MatrixFile};
 use crate::output::{print, refuse_same, Output};
-use crate::program::{BlockLine, Program};
+use crate::program::{refuse_odd_word, BlockLine, Program};
 use crate::progress::Progress;
 use crate::report::{refused, Ended, Promise, Totals};
 use crate::results::COLUMNS;
 use crate::samples_file::{Form, SamplesFile};
 use crate::setting::Setting;
 use crate::status::Status;
-use crate::{checked, fields, one_step, stream};
+use crate::{checked, fields, one_step, stream, word};
 use std::collections::VecDeque;
 use std::thread::{self, ScopedJoinHandle};
 
@@ -26,7 +26,7 @@ line, block, outcome, rounds, failing, changed, wrong_bits, within_half, reason,
 --setting S       words such as \"bits 8 limit 64 level-step 0.1\" (or full-scale 4), or a file
                   with them
 --samples X       numbers, n to a block: CSV with , or ; or tabs, or blanks; - is standard input.
-                  nan and inf are read and the block is refused; # and a blank begin a comment
+                  nan and inf are read and the block is refused; # begins a comment
 --out R           the table; standard output without it
 --header          the first line of X is a heading
 --skip-columns K  the first K fields of each line are labels
@@ -56,6 +56,9 @@ pub const KNOWN: Known = Known {
     files: 0,
 };
 
+/// The options that name an input.
+pub const INPUTS: [&str; 4] = ["--matrix", "--setting", "--samples", "--words"];
+
 /// So many bytes of samples go to a run of the program at most.
 const RUN_BYTES: usize = 4 << 20;
 
@@ -75,10 +78,9 @@ pub fn run(words: &[String]) -> Result<Status, Fault> {
 }
 
 /// Standard input holds one file.
-pub fn once_standard_input(arguments: &Arguments) -> Result<(), Fault> {
-    let inputs = ["--matrix", "--setting", "--samples", "--words"];
-    let standard = |name: &&str| arguments.value(name) == Some("-");
-    match inputs.into_iter().filter(standard).count() {
+pub fn once_standard_input(arguments: &Arguments, inputs: &[&str]) -> Result<(), Fault> {
+    let standard = |name: &&&str| arguments.value(name) == Some("-");
+    match inputs.iter().filter(standard).count() {
         0 | 1 => Ok(()),
         _ => Err(arguments.misused("- stands for two inputs")),
     }
@@ -115,7 +117,7 @@ impl Job {
             return Err(arguments.misused("--words goes with --one-step"));
         }
         let file = arguments.needed("--samples")?;
-        once_standard_input(arguments)?;
+        once_standard_input(arguments, &INPUTS)?;
         let setting = checked::setting(arguments.needed("--setting")?)?;
         let matrix = accepted(arguments)?;
         let form = form(arguments)?;
@@ -276,11 +278,8 @@ impl Decoder {
                     refused(line, block, not_finite(samples, place, column))
                 }
                 BlockLine::Ended(answer, word) => {
-                    if word.len() != self.matrix.word_bytes() {
-                        let what = format!("its word of block {block} is too short or too long");
-                        return Err(Fault::new("decode", what).remedy("build it anew: make decode"));
-                    }
-                    let wrong_bits = differing(samples, &word);
+                    refuse_odd_word(&word, &self.matrix, block)?;
+                    let wrong_bits = word::differing(stream::samples(samples), &word);
                     let ended = Ended {
                         word,
                         wrong_bits,
@@ -306,13 +305,6 @@ impl Decoder {
         totals.weak_blocks += usize::from(weak);
         weak
     }
-}
-
-/// In how many places a word differs from the samples' hard bits.
-pub fn differing(block: &[u8], word: &[u8]) -> usize {
-    let hard_bits = stream::samples(block).map(|sample| sample > 0.0);
-    let differs = |(at, bit): &(usize, bool)| (word[at / 8] >> (7 - at % 8) & 1 == 1) != *bit;
-    hard_bits.enumerate().filter(differs).count()
 }
 
 /// The reason for refusal 8, with the spreadsheet's column where a block is one line.

@@ -77,6 +77,14 @@ impl fmt::Display for Fault {
 
 impl std::error::Error for Fault {}
 
+/// A text as a message shows it: no more than 40 characters of it.
+pub fn short(text: &str) -> String {
+    match text.char_indices().nth(40) {
+        Some((end, _)) => format!("{}..", &text[..end]),
+        None => text.into(),
+    }
+}
+
 /// A line of a file, for faults in it.
 #[derive(Clone, Copy, Debug)]
 pub struct Place<'a> {
@@ -98,7 +106,7 @@ impl Place<'_> {
 
 #[cfg(test)]
 mod tests {
-    use super::{Fault, Place};
+    use super::{short, Fault, Place};
 
     #[test]
     fn shown_with_its_place_and_remedy() {
@@ -113,6 +121,8 @@ mod tests {
         );
         let fault = place.fault("the line is empty", "");
         assert_eq!(fault.to_string(), "y.csv:3: the line is empty");
+        assert_eq!(short("0.5"), "0.5");
+        assert_eq!(short(&"\u{2212}".repeat(50)), "\u{2212}".repeat(40) + "..");
         let fault = Fault::usage("mlgd decode", "--rows is not an option");
         let expected = "mlgd decode: --rows is not an option, see mlgd decode --help";
         assert_eq!(fault.to_string(), expected);

@@ -1,7 +1,7 @@
 //! One line of samples as fields: what separates them is found out, and a mixture that could be
 //! read in two ways is refused.
 
-use crate::fault::{Fault, Place};
+use crate::fault::{short, Fault, Place};
 
 /// What stands between the fields of a line.
 #[derive(Clone, Copy, Debug, PartialEq, Eq)]
@@ -174,7 +174,8 @@ pub fn refuse_blank(
         return Ok(());
     }
     let what = format!(
-        "`{text}` has a blank, and {} separates the fields: this could be read in two ways",
+        "`{}` has a blank, and {} separates the fields: this could be read in two ways",
+        short(text),
         separator.shown()
     );
     let remedy = match separator {

@@ -1,6 +1,7 @@
 //! A file read line by line, in memory that does not grow with it.
 
 use crate::fault::{Fault, Place};
+use crate::number;
 use std::fs::File;
 use std::io::{self, BufRead, BufReader, Read};
 
@@ -124,15 +125,17 @@ impl Lines {
     }
 }
 
-/// A line without its comment. A comment begins with `#` and a blank, or is a `#` at the end:
-/// `#N/A` is what a spreadsheet writes for a missing value.
+/// A line without its comment. A comment is a `#` at the line's beginning, after a blank or before
+/// one; but `#N/A` and its like are what a spreadsheet writes for a missing value.
 pub fn without_comment(line: &str) -> &str {
-    let mut from = 0;
-    while let Some(found) = line[from..].find('#') {
-        let at = from + found;
-        match line.as_bytes().get(at + 1) {
-            None | Some(b' ' | b'\t' | b'#') => return &line[..at],
-            Some(_) => from = at + 1,
+    let blank = |byte: Option<&u8>| matches!(byte, None | Some(b' ' | b'\t'));
+    let bytes = line.as_bytes();
+    for (at, _) in line.match_indices('#') {
+        let before = at.checked_sub(1).map(|at| &bytes[at]);
+        let word = line[at..].split([' ', '\t', ',', ';']).next();
+        let missing = word.is_some_and(number::is_error);
+        if blank(bytes.get(at + 1)) || (blank(before) && !missing) {
+            return &line[..at];
         }
     }
     line
@@ -190,9 +193,13 @@ mod tests {
 
     #[test]
     fn comments() {
-        assert_eq!(without_comment("1 2 # three"), "1 2 ");
+        for line in ["1 2 # three", "1 2 #three", "1 2 #", "1 2 ## three"] {
+            assert_eq!(without_comment(line), "1 2 ");
+        }
         assert_eq!(without_comment("#"), "");
-        assert_eq!(without_comment("## a"), "");
+        assert_eq!(without_comment("#shade 4109"), "");
         assert_eq!(without_comment("#N/A,1 # b"), "#N/A,1 ");
+        assert_eq!(without_comment("1 #DIV/0! 2"), "1 #DIV/0! 2");
+        assert_eq!(without_comment("1,#six,2"), "1,#six,2");
     }
 }

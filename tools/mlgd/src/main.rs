@@ -2,7 +2,7 @@
 
 use mlgd::fault::Fault;
 use mlgd::status::{Status, FAULT};
-use mlgd::{decode, matrix, output, pack, unpack};
+use mlgd::{decode, map, matrix, output, pack, simulate, unpack};
 use std::process::ExitCode;
 
 /// A subcommand: its name, what it does, and the function that does it.
@@ -17,6 +17,16 @@ const SUBCOMMANDS: &[Subcommand] = &[
         "decode",
         "samples to a results table, by the proved program",
         decode::run,
+    ),
+    (
+        "map",
+        "a results table as a picture: a cell for each block",
+        map::run,
+    ),
+    (
+        "simulate",
+        "error rates of a code under white noise, as a table and a curve",
+        simulate::run,
     ),
     (
         "matrix",

@@ -4,7 +4,7 @@ use crate::arguments::{asks_help, Arguments, Known};
 use crate::checked;
 use crate::fault::Fault;
 use crate::matrix_file::MatrixFile;
-use crate::output::{print, refuse_same, Output};
+use crate::output::{print, refuse_same, whole};
 use crate::status::Status;
 
 pub const USAGE: &str = "\
@@ -62,9 +62,7 @@ pub fn run(words: &[String]) -> Result<Status, Fault> {
     let text = text.ok_or_else(no_form)?;
     let out = arguments.value("--out");
     refuse_same(out, &[name])?;
-    let mut output = Output::create(out)?;
-    output.write(text.as_bytes())?;
-    output.finish()?;
+    whole(out, &text)?;
     eprintln!("{verdict}");
     Ok(Status::Done)
 }

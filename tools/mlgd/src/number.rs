@@ -1,5 +1,7 @@
 //! Single-format floats as text, and back without loss.
 
+use crate::fault::short;
+
 /// A decimal number, the nearest float; `nan` and `inf` in any case, with or without a sign; or
 /// `0x` and the eight digits of the float's bits. None for anything else.
 pub fn read(written: &str, decimal_comma: bool) -> Option<f32> {
@@ -66,15 +68,22 @@ pub fn write(number: f32) -> String {
 /// Why a text is no number, and what to do about it.
 pub fn complaint(written: &str, decimal_comma: bool) -> (String, &'static str) {
     let missing = "write nan there: then this block alone is refused";
-    let said = |what: &str| format!("`{written}` {what}");
+    let said = |what: &str| format!("`{}` {what}", short(written));
     if written.is_empty() {
         return ("the field is empty".into(), missing);
     }
     if written.starts_with('#') && !is_error(written) {
-        return (said("is not a number"), "a comment has a blank after its #");
+        return (
+            said("is not a number"),
+            "a comment has a blank before its #",
+        );
     }
     if is_missing(written) {
         return (said("is a missing value"), missing);
+    }
+    if decimal_comma && written.matches(',').count() > 1 {
+        let remedy = "if commas separate the fields, leave --decimal-comma out";
+        return (said("has several commas beside --decimal-comma"), remedy);
     }
     if decimal_comma && written.contains('.') {
         return (
@@ -85,16 +94,24 @@ pub fn complaint(written: &str, decimal_comma: bool) -> (String, &'static str) {
     if !decimal_comma && written.contains(',') && read(written, true).is_some() {
         return (said("has a decimal comma"), "give --decimal-comma");
     }
-    let odd = written.chars().find(|c| !c.is_ascii());
-    match odd {
-        Some(c @ '\u{2010}'..='\u{2015}') => (said(&code(c, "a dash")), "write - for a minus"),
-        Some(c) if c.is_whitespace() => (said(&code(c, "a blank of its own kind")), "take it away"),
+    let (what, remedy) = odd_character(written);
+    (said(&what), remedy)
+}
+
+/// What else is wrong with a text that is no number.
+fn odd_character(written: &str) -> (String, &'static str) {
+    match written.chars().find(|c| !c.is_ascii()) {
+        Some(c @ '\u{2010}'..='\u{2015}') => (code(c, "a dash"), "write - for a minus"),
+        Some(c) if c.is_control() || c == '\u{feff}' => {
+            (code(c, "which cannot be seen"), "take it away")
+        }
+        Some(c) if c.is_whitespace() => (code(c, "a blank of its own kind"), "take it away"),
         _ if overflows(written) => (
-            said("is beyond the single format"),
+            "is beyond the single format".into(),
             "its largest number is 3.4e38: write nan to have this block refused",
         ),
         _ => (
-            said("is not a number"),
+            "is not a number".into(),
             "write decimal numbers such as -0.75",
         ),
     }
@@ -114,7 +131,7 @@ pub fn is_missing(written: &str) -> bool {
 }
 
 /// `#N/A`, `#DIV/0!` and the like.
-fn is_error(written: &str) -> bool {
+pub fn is_error(written: &str) -> bool {
     let upper = |byte: u8| byte.is_ascii_uppercase() || b"/0".contains(&byte);
     written.strip_prefix('#').is_some_and(|rest| {
         let name = rest.trim_end_matches(['!', '?']);
@@ -205,11 +222,21 @@ mod tests {
             ("#six", false, "`#six` is not a number"),
             ("1.5", true, "`1.5` has a point beside --decimal-comma"),
             ("1,5", false, "`1,5` has a decimal comma"),
+            (
+                "1,2,3",
+                true,
+                "`1,2,3` has several commas beside --decimal-comma",
+            ),
             ("\u{2013}5", false, "`\u{2013}5` has U+2013, a dash"),
             (
                 "1\u{a0}000",
                 false,
                 "`1\u{a0}000` has U+00A0, a blank of its own kind",
+            ),
+            (
+                "\u{feff}5",
+                false,
+                "`\u{feff}5` has U+FEFF, which cannot be seen",
             ),
             ("1e39", false, "`1e39` is beyond the single format"),
             ("six", false, "`six` is not a number"),

@@ -2,7 +2,7 @@
 
 use crate::arguments::Arguments;
 use crate::checked;
-use crate::decode::{accepted, form, once_standard_input};
+use crate::decode::{accepted, form, once_standard_input, INPUTS};
 use crate::fault::Fault;
 use crate::matrix_file::Matrix;
 use crate::output::{refuse_same, Output};
@@ -10,6 +10,7 @@ use crate::progress::Progress;
 use crate::report::{refused, Ended, Promise, Totals};
 use crate::results::{Row, COLUMNS};
 use crate::samples_file::SamplesFile;
+use crate::word::distance;
 use crate::words_file::WordsFile;
 
 /// Where the words come from.
@@ -75,12 +76,8 @@ fn hard_bits(samples: &[f32]) -> Received {
 
 /// Decodes all words, writes the table, and tells the totals.
 pub fn run(arguments: &Arguments) -> Result<Totals, Fault> {
-    for name in ["--setting", "--jobs", "--program"] {
-        if arguments.value(name).is_some() {
-            return Err(arguments.misused(format!("{name} does not go with --one-step")));
-        }
-    }
-    once_standard_input(arguments)?;
+    arguments.refuse_beside(&["--setting", "--jobs", "--program"], "--one-step")?;
+    once_standard_input(arguments, &INPUTS)?;
     let matrix = accepted(arguments)?;
     let mut source = Source::open(arguments, matrix.matrix.n)?;
     let out = arguments.value("--out");
@@ -117,12 +114,8 @@ fn voted(matrix: &Matrix, promise: &Promise, line: usize, block: usize, received
     let mut word = vec![0; matrix.word_bytes()];
     match checked::one_step(matrix, &received, &mut word) {
         Ok(answer) => {
-            let differing = word
-                .iter()
-                .zip(&received)
-                .map(|(a, b)| (a ^ b).count_ones() as usize);
             let ended = Ended {
-                wrong_bits: differing.sum(),
+                wrong_bits: distance(&word, &received),
                 word,
                 weak: false,
             };

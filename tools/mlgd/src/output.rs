@@ -75,11 +75,16 @@ impl Drop for Output {
     }
 }
 
-/// Prints a text.
-pub fn print(text: &str) -> Result<(), Fault> {
-    let mut output = Output::create(None)?;
+/// Writes a text in one go, to standard output for none and for `-`.
+pub fn whole(file: Option<&str>, text: &str) -> Result<(), Fault> {
+    let mut output = Output::create(file)?;
     output.write(text.as_bytes())?;
     output.finish()
+}
+
+/// Prints a text.
+pub fn print(text: &str) -> Result<(), Fault> {
+    whole(None, text)
 }
 
 /// Refuses an output that would replace one of the inputs.

@@ -1,7 +1,7 @@
 //! `mlgd pack`: the program's input from files.
 
 use crate::arguments::{asks_help, Arguments, Known};
-use crate::decode::{accepted, form, once_standard_input};
+use crate::decode::{accepted, form, once_standard_input, INPUTS};
 use crate::fault::Fault;
 use crate::output::{print, refuse_same, Output};
 use crate::samples_file::SamplesFile;
@@ -41,7 +41,7 @@ pub fn run(words: &[String]) -> Result<Status, Fault> {
         return print(USAGE).map(|()| Status::Done);
     }
     let arguments = Arguments::read(words, &KNOWN)?;
-    once_standard_input(&arguments)?;
+    once_standard_input(&arguments, &INPUTS)?;
     let setting = checked::setting(arguments.needed("--setting")?)?;
     let matrix = accepted(&arguments)?;
     let name = arguments.needed("--samples")?;

@@ -1,7 +1,8 @@
 //! The proved program `decode`, run as a child process: what decodes is what was proved.
 
 use crate::checked::Answer;
-use crate::fault::Fault;
+use crate::fault::{short, Fault};
+use crate::matrix_file::Matrix;
 use std::io::{ErrorKind, Read, Write};
 use std::path::{Path, PathBuf};
 use std::process::{Child, Command, Stdio};
@@ -53,26 +54,7 @@ impl Program {
     /// Runs one input with so many blocks. Fewer lines than blocks are a fault: something was
     /// lost on the way.
     pub fn run(&self, input: &[u8], blocks: usize) -> Result<Vec<BlockLine>, Fault> {
-        let printed = self.printed(input)?;
-        let mut lines = printed.lines();
-        if lines.next() != Some(HEADING) {
-            return Err(self.fault("its first line is not the heading"));
-        }
-        let mut read = Vec::with_capacity(blocks);
-        for line in lines {
-            let Some(block) = block_line(read.len(), line) else {
-                return Err(self.fault(format!("it printed `{line}` for block {}", read.len())));
-            };
-            read.push(block);
-        }
-        if read.len() != blocks || !printed.ends_with('\n') {
-            let what = format!(
-                "it printed {} lines for {blocks} blocks: a write was lost",
-                read.len()
-            );
-            return Err(self.fault(what));
-        }
-        Ok(read)
+        block_lines(&self.printed(input)?, blocks).map_err(|what| self.fault(what))
     }
 
     fn fault(&self, what: impl Into<String>) -> Fault {
@@ -117,6 +99,41 @@ fn feed_and_read(child: &mut Child, input: &[u8]) -> std::io::Result<Vec<u8>> {
             _ => Ok(printed),
         }
     })
+}
+
+/// The lines for so many blocks, or what is wrong with them.
+pub(crate) fn block_lines(printed: &str, blocks: usize) -> Result<Vec<BlockLine>, String> {
+    let mut lines = printed.lines();
+    if lines.next() != Some(HEADING) {
+        return Err("its first line is not the heading".into());
+    }
+    let mut read = Vec::with_capacity(blocks);
+    for line in lines {
+        let Some(block) = block_line(read.len(), line) else {
+            return Err(format!(
+                "it printed `{}` for block {}",
+                short(line),
+                read.len()
+            ));
+        };
+        read.push(block);
+    }
+    if read.len() != blocks || !printed.ends_with('\n') {
+        return Err(format!(
+            "it printed {} lines for {blocks} blocks: a write was lost",
+            read.len()
+        ));
+    }
+    Ok(read)
+}
+
+/// Refuses a word that has not as many bytes as the code's words.
+pub fn refuse_odd_word(word: &[u8], matrix: &Matrix, block: usize) -> Result<(), Fault> {
+    if word.len() == matrix.word_bytes() {
+        return Ok(());
+    }
+    let what = format!("its word of block {block} is too short or too long");
+    Err(Fault::new("decode", what).remedy("build it anew: make decode"))
 }
 
 /// A line for this block, or none if it is not one.

@@ -44,7 +44,8 @@ impl Promise {
             .map(|(_, ample)| ample)
     }
 
-    /// How many wrong bits are undone in a block, in words; `weak` says that a bit 1 has level 0.
+    /// How many bits were wrong in a block that failed with an ample limit: with fewer it would
+    /// have been decoded. `weak` says that a bit 1 has level 0.
     fn more_than(&self, weak: bool) -> String {
         let lost = usize::from(weak && self.needs_levels());
         match self.t.saturating_sub(lost) {
@@ -54,13 +55,30 @@ impl Promise {
         }
     }
 
+    /// What is to be said of a codeword that lies beyond the half, whatever the limit.
+    fn beyond(&self, wrong_bits: usize) -> String {
+        let bits = match wrong_bits {
+            1 => "1 bit".into(),
+            _ => format!("{wrong_bits} bits"),
+        };
+        let are = if self.t == 1 { "is" } else { "are" };
+        format!(
+            "changed {bits}, more than the {} that {are} proved to be undone: \
+             the word is a codeword but nothing proves it to be the one sent",
+            self.t
+        )
+    }
+
     /// Why a block is open to doubt, in words; nothing where it is decoded within the half.
     fn reason(&self, answer: &Answer, ended: &Ended) -> String {
-        let (wrong, checks) = (self.more_than(ended.weak), checks(answer.failing));
+        let checks = checks(answer.failing);
         match (answer.decoded, self.missing_limit()) {
             (true, _) if ended.wrong_bits <= self.t => String::new(),
-            (true, _) => format!("{wrong}: not proved to be the block sent"),
-            (false, None) => format!("{wrong}: {checks} still fail: send the block again"),
+            (true, _) => self.beyond(ended.wrong_bits),
+            (false, None) => {
+                let wrong = self.more_than(ended.weak);
+                format!("{wrong}: {checks} still fail: send the block again")
+            }
             (false, Some(ample)) => format!(
                 "{checks} still fail after {} rounds: \
                  try a limit of {ample} before you send it again",
@@ -198,5 +216,86 @@ impl Totals {
             );
         }
         line
+    }
+}
+
+#[cfg(test)]
+mod tests {
+    use super::{Answer, Ended, Matrix, Promise, Setting};
+
+    /// Of a code with this gamma, at 8 bits and this limit.
+    fn promise(gamma: u16, limit: u8) -> Promise {
+        let matrix = Matrix {
+            n: 155,
+            m: 93,
+            rho: 5,
+            gamma,
+            list: Vec::new(),
+        };
+        let setting = Setting {
+            bits: 8,
+            limit,
+            kind: 0,
+            step: 0.1,
+        };
+        Promise::iterative(&matrix, &setting)
+    }
+
+    fn reason(promise: Promise, decoded: bool, wrong_bits: usize, weak: bool) -> String {
+        let answer = Answer {
+            decoded,
+            rounds: 30,
+            failing: if decoded { 0 } else { 4 },
+            changed: wrong_bits,
+        };
+        let ended = Ended {
+            word: Vec::new(),
+            wrong_bits,
+            weak,
+        };
+        promise.row(1, 0, answer, ended).reason
+    }
+
+    /// The same words whatever the limit, and no claim of how many bits were wrong.
+    #[test]
+    fn decoded_beyond_the_half() {
+        let ending = "the word is a codeword but nothing proves it to be the one sent";
+        for limit in [0, 30, 63, 64, 255] {
+            for weak in [false, true] {
+                let expected = format!(
+                    "changed 6 bits, more than the 2 that are proved to be undone: {ending}"
+                );
+                assert_eq!(reason(promise(5, limit), true, 6, weak), expected);
+                assert_eq!(reason(promise(4, limit), true, 6, weak), expected);
+                assert_eq!(reason(promise(4, limit), true, 2, weak), "");
+            }
+        }
+        let expected =
+            format!("changed 2 bits, more than the 1 that is proved to be undone: {ending}");
+        assert_eq!(reason(promise(3, 64), true, 2, false), expected);
+        let expected =
+            format!("changed 1 bit, more than the 0 that are proved to be undone: {ending}");
+        assert_eq!(reason(promise(1, 64), true, 1, false), expected);
+    }
+
+    /// How many bits were wrong is said where it follows: with an ample limit, and for one bit
+    /// fewer where gamma is even and a bit 1 has level 0.
+    #[test]
+    fn failed() {
+        let ending = "4 checks still fail: send the block again";
+        for (gamma, weak, wrong) in [
+            (5, false, "more than 2 bits were wrong"),
+            (5, true, "more than 2 bits were wrong"),
+            (4, false, "more than 2 bits were wrong"),
+            (4, true, "more than 1 bit was wrong"),
+            (2, true, "a bit was wrong"),
+        ] {
+            let found = reason(promise(gamma, 64), false, 9, weak);
+            assert_eq!(found, format!("{wrong}: {ending}"));
+            let found = reason(promise(gamma, 63), false, 9, weak);
+            let expected = "4 checks still fail after 30 rounds: \
+                            try a limit of 64 before you send it again";
+            assert_eq!(found, expected);
+        }
     }
 }

@@ -1,6 +1,6 @@
 //! The results table: one line a block, to be opened in a spreadsheet and read again by `map`.
 
-use crate::fault::Fault;
+use crate::fault::{short, Fault};
 use crate::fields::{Fields, Separator};
 use crate::lines::Lines;
 use crate::program::bytes;
@@ -154,7 +154,7 @@ impl Table {
         let text = |name: &str| Ok(fields[self.column(name)?].as_str());
         let odd = |name: &str, written: &str| {
             let field = self.column(name).map_or(1, |at| at + 1);
-            let what = format!("{name}: `{written}` does not belong there");
+            let what = format!("{name}: `{}` does not belong there", short(written));
             self.lines
                 .place()
                 .at(field, what, "is this a table of mlgd decode?")
@@ -163,7 +163,13 @@ impl Table {
             let written = text(name)?;
             written.parse().map_err(|_| odd(name, written))
         };
-        let outcome = Outcome::read(text("outcome")?).ok_or_else(|| odd("outcome", "this"))?;
+        let written = text("outcome")?;
+        let outcome = Outcome::read(written).ok_or_else(|| odd("outcome", written))?;
+        let within_half = match (text("within_half")?, outcome) {
+            ("yes", Outcome::Decoded) => true,
+            ("no", _) | ("", Outcome::Refused) => false,
+            (written, _) => return Err(odd("within_half", written)),
+        };
         let word = text("word")?.strip_prefix('x').and_then(bytes);
         let counts = match outcome {
             Outcome::Refused => None,
@@ -172,7 +178,7 @@ impl Table {
                 failing: whole("failing")?,
                 changed: whole("changed")?,
                 wrong_bits: whole("wrong_bits")?,
-                word: word.ok_or_else(|| odd("word", "this"))?,
+                word: word.ok_or_else(|| odd("word", text("word").unwrap_or_default()))?,
             }),
         };
         Ok(Some(Row {
@@ -180,7 +186,7 @@ impl Table {
             block: whole("block")?,
             outcome,
             counts,
-            within_half: text("within_half")? == "yes",
+            within_half,
             reason: text("reason")?.into(),
         }))
     }

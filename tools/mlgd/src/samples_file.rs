@@ -3,7 +3,7 @@
 //! A block is one line, or the same number of lines with the same numbers of fields each time. A
 //! file that could be read in two ways is refused, with a hint.
 
-use crate::fault::Fault;
+use crate::fault::{short, Fault};
 use crate::fields::{column_letters, refuse_blank, Fields, Separator};
 use crate::lines::{refuse_percent, without_comment, Lines};
 use crate::number;
@@ -179,7 +179,7 @@ impl SamplesFile {
         let numbers = written.split([' ', '\t']).all(is_number);
         let hint = self.heading_or_labels(at).filter(|_| !numbers);
         if let Some(remedy) = hint {
-            let what = format!("{column}: `{written}` is not a number");
+            let what = format!("{column}: `{}` is not a number", short(written));
             return place.at(at + 1, what, remedy);
         }
         if let Err(fault) = refuse_blank(place, at + 1, written, separator) {
@@ -323,6 +323,14 @@ impl SamplesFile {
 fn counted(count: usize, what: &str) -> String {
     let s = if count == 1 { "" } else { "s" };
     format!("{count} {what}{s}")
+}
+
+/// A block as a line that is read again without loss. `1,1` could be a decimal comma: two samples
+/// have a semicolon between them.
+pub fn csv_line(samples: &[f32]) -> String {
+    let separator = if samples.len() == 2 { ";" } else { "," };
+    let numbers: Vec<String> = samples.iter().map(|&y| number::write(y)).collect();
+    numbers.join(separator) + "\n"
 }
 
 #[cfg(test)]

@@ -1,6 +1,6 @@
 //! The setting: `bits 3 limit 5 level-step 0.5` or `bits 3 limit 5 full-scale 4`.
 
-use crate::fault::Fault;
+use crate::fault::{short, Fault};
 use crate::number;
 use crate::text::{Line, Text};
 use std::fmt;
@@ -51,7 +51,7 @@ impl Setting {
                 "kind" => 2,
                 "bits" | "limit" | "level-step" | "full-scale" => 1,
                 _ => {
-                    let what = format!("`{word}` is no word of a setting");
+                    let what = format!("`{}` is no word of a setting", short(word));
                     return Err(text.at(line, at, what, &format!("write {WORDS}")));
                 }
             };

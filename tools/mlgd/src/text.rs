@@ -1,8 +1,8 @@
 //! A small file as lines of fields, for matrices and settings: fields are separated by blanks, or
 //! by one comma or semicolon.
 
-use crate::fault::{Fault, Place};
-use crate::lines::{refuse_percent, without_comment, Lines};
+use crate::fault::{short, Fault, Place};
+use crate::lines::{refuse_percent, Lines};
 use std::str::FromStr;
 
 /// More fields than any matrix has that could be accepted.
@@ -63,7 +63,7 @@ impl Text {
         let (mut lines, mut held) = (Vec::new(), 0);
         while from.advance()? {
             let place = from.place();
-            let text = without_comment(from.text());
+            let text = from.text().split('#').next().unwrap_or_default();
             refuse_percent(place, text)?;
             let spans = spans(place, text)?;
             held += spans.len();
@@ -113,13 +113,13 @@ impl Text {
     {
         let written = line.field(at);
         if !written.bytes().all(|byte| byte.is_ascii_digit()) {
-            let what = format!("{what}: `{written}` is not a whole number");
+            let what = format!("{what}: `{}` is not a whole number", short(written));
             return Err(self.at(line, at, what, "write a number such as 7 there"));
         }
         match written.parse() {
             Ok(number) if number <= most => Ok(number),
             _ => {
-                let what = format!("{what}: {written} is above {most}");
+                let what = format!("{what}: {} is above {most}", short(written));
                 Err(self.at(line, at, what, "is this the right number?"))
             }
         }

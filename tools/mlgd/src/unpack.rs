@@ -4,8 +4,8 @@ use crate::arguments::{asks_help, Arguments, Known};
 use crate::fault::Fault;
 use crate::lines::shown;
 use crate::matrix_file::Matrix;
-use crate::number;
-use crate::output::{print, refuse_same, Output};
+use crate::output::{print, refuse_same, whole, Output};
+use crate::samples_file::csv_line;
 use crate::setting::Setting;
 use crate::status::Status;
 use std::fs::File;
@@ -44,10 +44,11 @@ pub fn run(words: &[String]) -> Result<Status, Fault> {
     let mut input = Input::open(name)?;
     let (matrix, setting) = input.head()?;
     if let Some(out) = arguments.value("--matrix") {
-        whole(out, &as_text(&matrix, name, arguments.flag("--alist"))?)?;
+        let text = as_text(&matrix, name, arguments.flag("--alist"))?;
+        whole(Some(out), &text)?;
     }
     if let Some(out) = arguments.value("--setting") {
-        whole(out, &format!("{setting}\n"))?;
+        whole(Some(out), &format!("{setting}\n"))?;
     }
     let blocks = input.blocks(&matrix, arguments.value("--samples"))?;
     let Matrix {
@@ -66,13 +67,6 @@ fn as_text(matrix: &Matrix, name: &str, alist: bool) -> Result<String, Fault> {
         let what = "this matrix has no alist form";
         Fault::new(shown(name), what).remedy("leave out --alist to see its list")
     })
-}
-
-/// Writes a file in one go.
-fn whole(out: &str, text: &str) -> Result<(), Fault> {
-    let mut output = Output::create(Some(out))?;
-    output.write(text.as_bytes())?;
-    output.finish()
 }
 
 /// An input being read. It has to be whole: the program would print "short".
@@ -140,8 +134,7 @@ impl Input {
         Ok(blocks)
     }
 
-    /// A block as a line of CSV; none at the end. `1,1` could be a decimal comma: two samples
-    /// have a semicolon between them.
+    /// A block as a line of CSV; none at the end.
     pub fn block(&mut self, matrix: &Matrix, number: usize) -> Result<Option<String>, Fault> {
         let left = self
             .input
@@ -154,15 +147,9 @@ impl Input {
             return Err(self.fault("a code of no bits has no samples".into()));
         }
         let what = format!("block {number}");
-        let (mut line, separator) = (String::new(), if matrix.n == 2 { ';' } else { ',' });
-        for at in 0..matrix.n {
-            if at > 0 {
-                line.push(separator);
-            }
-            line += &number::write(self.float(&what)?);
-        }
-        line.push('\n');
-        Ok(Some(line))
+        let samples = (0..matrix.n).map(|_| self.float(&what));
+        let samples: Result<Vec<f32>, Fault> = samples.collect();
+        Ok(Some(csv_line(&samples?)))
     }
 
     fn fault(&self, what: String) -> Fault {

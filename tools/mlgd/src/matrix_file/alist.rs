@@ -222,51 +222,54 @@ mod tests {
         MatrixFile::of("h", &contents).unwrap_err().to_string()
     }
 
+    /// A line, what to put in its place, and how the message begins.
+    const WRONG: &[(usize, &str, &str)] = &[
+        (0, "3 0", "h:1:2: the sizes n and m: 0 is too small"),
+        (
+            0,
+            "4 3",
+            "h:3: the weights of the columns: 3 numbers where 4 are due, is the line wrapped?",
+        ),
+        (
+            1,
+            "2",
+            "h:2: the largest weights: 1 numbers where 2 are due",
+        ),
+        (
+            1,
+            "3 2",
+            "h:2:1: the largest weight of a column is given as 3, and the columns have 2",
+        ),
+        (
+            2,
+            "2 3 2",
+            "h:3:2: column 2 has weight 3 and column 1 has 2: the decoder takes",
+        ),
+        (
+            3,
+            "2 2 1",
+            "h:4:3: row 3 has weight 1 and row 1 has 2: the decoder takes rows of one",
+        ),
+        (4, "1 4", "h:5:2: row: 4 is above 3"),
+        (4, "1 0", "h:5: column 1 has 1 rows, and its weight is 2"),
+        (4, "1 2 3", "h:5: column 1 has 3 rows, and its weight is 2"),
+        (4, "0 1 3", "h:5:2: column 1 has a row after a 0"),
+        (4, "1 1", "h:5:2: row 1 stands twice in column 1"),
+        (
+            8,
+            "1 3",
+            "h:9:1: row 2 has column 1, but column 1 has no row 2, compare line 9 with line 5",
+        ),
+        (
+            9,
+            "",
+            "h:9: the file ends before row 3, the half with the columns of each row",
+        ),
+    ];
+
     #[test]
     fn what_is_wrong() {
-        for (at, line, expected) in [
-            (0, "3 0", "h:1:2: the sizes n and m: 0 is too small"),
-            (
-                0,
-                "4 3",
-                "h:3: the weights of the columns: 3 numbers where 4 are due, is the line wrapped?",
-            ),
-            (
-                1,
-                "2",
-                "h:2: the largest weights: 1 numbers where 2 are due",
-            ),
-            (
-                1,
-                "3 2",
-                "h:2:1: the largest weight of a column is given as 3, and the columns have 2",
-            ),
-            (
-                2,
-                "2 3 2",
-                "h:3:2: column 2 has weight 3 and column 1 has 2: the decoder takes",
-            ),
-            (
-                3,
-                "2 2 1",
-                "h:4:3: row 3 has weight 1 and row 1 has 2: the decoder takes rows of one",
-            ),
-            (4, "1 4", "h:5:2: row: 4 is above 3"),
-            (4, "1 0", "h:5: column 1 has 1 rows, and its weight is 2"),
-            (4, "1 2 3", "h:5: column 1 has 3 rows, and its weight is 2"),
-            (4, "0 1 3", "h:5:2: column 1 has a row after a 0"),
-            (4, "1 1", "h:5:2: row 1 stands twice in column 1"),
-            (
-                8,
-                "1 3",
-                "h:9:1: row 2 has column 1, but column 1 has no row 2, compare line 9 with line 5",
-            ),
-            (
-                9,
-                "",
-                "h:9: the file ends before row 3, the half with the columns of each row",
-            ),
-        ] {
+        for &(at, line, expected) in WRONG {
             let message = message(at, line);
             assert!(message.starts_with(expected), "{line}: {message}");
         }

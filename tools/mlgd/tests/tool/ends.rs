@@ -3,7 +3,6 @@
 use crate::common::{program, Folder, SETTING};
 use generator::{alist, codes};
 use std::fs;
-use std::os::unix::fs::PermissionsExt;
 
 const GOOD: &str = "0.5,-1,-1,-1,-1,-1,-1\n";
 
@@ -98,38 +97,33 @@ fn a_full_disk_behind_standard_output() {
     }
 }
 
+/// A program that prints what the file `printed` says.
+const FAKE: &str = concat!(env!("CARGO_MANIFEST_DIR"), "/tests/fake");
+
 /// Programs that lose lines, or print something else.
 #[test]
 fn lost_lines() {
     let folder = folder("lost", &GOOD.repeat(3));
-    let heading = "block end rounds failing changed word";
+    let lost = |lines: usize| format!("it printed {lines} lines for 3 blocks: a write was lost");
     for (printed, what) in [
-        ("", "its first line is not the heading"),
-        (heading, "it printed 0 lines for 3 blocks: a write was lost"),
+        ("", "its first line is not the heading".into()),
+        ("H\n", lost(0)),
+        ("H\n0 decoded 1 0 1 00\n", lost(1)),
         (
-            "H\\n0 decoded 1 0 1 00",
-            "it printed 1 lines for 3 blocks: a write was lost",
+            "H\n0 decoded 1 0 1 00\n1 decoded 1 0 1 00\n2 decoded 1 0 1 00",
+            lost(3),
         ),
         (
-            "H\\n0 decoded 1 0 1 00\\n1 dec",
-            "it printed `1 dec` for block 1",
+            "H\n0 decoded 1 0 1 00\n1 dec\n",
+            "it printed `1 dec` for block 1".into(),
         ),
-        ("H\\nshort", "it printed `short` for block 0"),
-        (
-            "H\\n1 decoded 1 0 1 00",
-            "it printed `1 decoded 1 0 1 00` for block 0",
-        ),
+        ("H\nshort\n", "it printed `short` for block 0".into()),
     ] {
-        let printed = printed.replace('H', heading);
-        folder.write(
-            "fake",
-            format!("#!/bin/sh\ncat >/dev/null\nprintf '{printed}\\n'\n"),
-        );
-        let fake = folder.0.join("fake");
-        fs::set_permissions(&fake, fs::Permissions::from_mode(0o755)).unwrap();
-        let ran = folder.decode("fake", SETTING, &[]);
+        let heading = "block end rounds failing changed word";
+        folder.write("printed", printed.replace('H', heading));
+        let ran = folder.decode(FAKE, SETTING, &[]);
         assert_eq!(ran.status, 2, "{ran:?}");
-        assert!(ran.said.contains(what), "{}", ran.said);
+        assert!(ran.said.contains(&what), "{}", ran.said);
         assert!(!folder.has("r"));
     }
 }
@@ -138,19 +132,12 @@ fn lost_lines() {
 #[test]
 fn lost_programs() {
     let folder = folder("lost-programs", GOOD);
-    folder.write("fake", "#!/bin/sh\nexit 3\n");
-    let executable = fs::Permissions::from_mode(0o755);
-    fs::set_permissions(folder.0.join("fake"), executable).unwrap();
-    let ran = folder.decode("fake", SETTING, &[]);
-    assert!(
-        ran.status == 2 && ran.said.contains("it ended with exit status: 3"),
-        "{ran:?}"
-    );
+    let ran = folder.decode(FAKE, SETTING, &[]);
+    assert_eq!(ran.status, 2, "{ran:?}");
+    assert!(ran.said.contains("it ended with exit status: 1"), "{ran:?}");
     let ran = folder.decode("nothing", SETTING, &[]);
-    assert_eq!(
-        ran.said,
-        "nothing: there is no such program, build it: make decode\n"
-    );
+    let expected = "nothing: there is no such program, build it: make decode\n";
+    assert_eq!(ran.said, expected);
 }
 
 #[test]
@@ -264,7 +251,8 @@ fn one_step() {
         [
             "1,0,decoded,0,0,0,0,yes,,x2e",
             "2,1,decoded,1,0,1,1,yes,,x2e",
-            "3,2,decoded,1,0,6,6,no,more than 1 bit was wrong: not proved to be the block sent,x2e",
+            "3,2,decoded,1,0,6,6,no,\"changed 6 bits, more than the 1 that is proved to be undone: \
+             the word is a codeword but nothing proves it to be the one sent\",x2e",
             "4,3,refused,,,,,no,one of the last 1 places of the last byte is not 0,",
         ]
     );

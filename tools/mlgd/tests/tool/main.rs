@@ -5,5 +5,6 @@ mod common;
 mod ends;
 mod memory;
 mod messages;
+mod pictures;
 mod round_trips;
 mod table;

@@ -14,6 +14,12 @@ fn peak(process: &str) -> Option<u64> {
     line.split_whitespace().nth(1)?.parse().ok()
 }
 
+/// Whether a process runs this program already, and is no longer the tool that starts it.
+fn runs(process: &str, program: &str) -> bool {
+    let running = fs::read_link(format!("/proc/{process}/exe"));
+    running.is_ok_and(|path| fs::canonicalize(program).is_ok_and(|program| program == path))
+}
+
 /// The children of a process and of its threads.
 fn children(process: u32) -> Vec<String> {
     let tasks = fs::read_dir(format!("/proc/{process}/task"))
@@ -53,8 +59,8 @@ fn measured(folder: &Folder, program: &str, samples: &str, out: &str, jobs: &str
     let (mut tool, mut programs) = (0, 0);
     while child.try_wait().unwrap().is_none() {
         tool = tool.max(peak(&child.id().to_string()).unwrap_or(0));
-        for id in children(child.id()) {
-            programs = programs.max(peak(&id).unwrap_or(0));
+        for id in children(child.id()).iter().filter(|id| runs(id, program)) {
+            programs = programs.max(peak(id).unwrap_or(0));
         }
         std::thread::sleep(Duration::from_millis(2));
     }

@@ -1,6 +1,6 @@
 //! Whole files against the reference decoder: every line of the table.
 
-use crate::common::{csv, program, Folder};
+use crate::common::{csv, program, Folder, SETTING};
 use generator::codes::{self, Code};
 use generator::{alist, inputs, settings, stream, Codewords, Random};
 use mlgd::results::{Outcome, Row, Table, COLUMNS};
@@ -142,7 +142,7 @@ fn strong_wrong_samples_within_the_half() {
         }
         folder.write("h", alist::text(&code));
         folder.write("y", csv(&blocks));
-        let ran = folder.decode(&program, crate::common::SETTING, &[]);
+        let ran = folder.decode(&program, SETTING, &[]);
         assert_eq!(ran.status, 0, "{}: {ran:?}", code.name);
         for (at, (row, sent)) in rows(&folder, "r").iter().zip(&sent).enumerate() {
             let counts = row.counts.as_ref().unwrap();
@@ -201,4 +201,69 @@ fn a_table_that_was_saved_again() {
         .unwrap()
         .to_string();
     assert!(fault.contains("there is no column `outcome`"), "{fault}");
+}
+
+/// A spreadsheet's file: byte order mark, heading, labels, decimal commas, another minus, carriage
+/// returns. Its table is that of the plain file, but for the lines.
+#[test]
+fn a_spreadsheet_s_file() {
+    let Some(program) = program() else { return };
+    let folder = Folder::new("spreadsheet");
+    let code = codes::tanner155();
+    let mut blocks = inputs::blocks(&code, 30, 1.0, &mut Random::new(74));
+    blocks.retain(|block| {
+        block
+            .iter()
+            .all(|y| y.abs() < 1e6 && (y.abs() > 1e-6 || *y == 0.0))
+    });
+    folder.write("h", format!("\u{feff}{}", alist::text(&code)));
+    folder.write("y", csv(&blocks));
+    let plain = folder.decode(&program, SETTING, &[]);
+    let table = folder.read("r");
+    let line = |line: &str| {
+        let numbers = line.replace(',', ";").replace('.', ",");
+        format!(
+            "\"shade 4109\";02:30 h;{}\r\n",
+            numbers.replace('-', "\u{2212}")
+        )
+    };
+    let lines: String = csv(&blocks).lines().map(line).collect();
+    folder.write("y", format!("\u{feff}shade;time;samples\r\n{lines}"));
+    let options = ["--header", "--skip-columns", "2", "--decimal-comma"];
+    let ran = folder.decode(&program, SETTING, &options);
+    assert_eq!((ran.status, ran.said), (plain.status, plain.said));
+    let rest = |table: &str| -> Vec<String> {
+        let rest = |line: &str| line.split_once(',').unwrap().1.to_string();
+        table.lines().map(rest).collect()
+    };
+    assert_eq!(rest(&folder.read("r")), rest(&table));
+    assert!(folder.read("r").lines().nth(1).unwrap().starts_with("2,0,"));
+}
+
+/// An alist with n and m exchanged is accepted, if it is regular; its sizes are told, and the
+/// samples no longer fit.
+#[test]
+fn exchanged_sizes() {
+    let folder = Folder::new("exchanged");
+    let code = codes::complete_graph(5);
+    folder.write("h", alist::text(&code.transposed()));
+    let said = folder.run(&["matrix", "h"]).text();
+    assert_eq!(
+        said,
+        "h: n 5, m 10, rho 2, gamma 4, t 2: accepted (alist)\n"
+    );
+    folder.write("y", csv(&[vec![-1.5; 10]]));
+    let words = [
+        "pack",
+        "--matrix",
+        "h",
+        "--setting",
+        SETTING,
+        "--samples",
+        "y",
+    ];
+    let ran = folder.run(&[&words[..], &["--out", "input"]].concat());
+    assert_eq!(ran.status, 2);
+    let what = "y:1: this line has 10 samples, 2 blocks of 5, put each block on a line of its own";
+    assert!(ran.said.starts_with(what), "{}", ran.said);
 }
