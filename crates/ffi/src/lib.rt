@@ -8,6 +8,7 @@ use ffi_codes::session_in;
 use ffi_codes::setting_of;
 use ffi_codes::turn_code;
 use matrix_check::Shape;
+use quantiser_levels::Cell;
 ghost use mathlib.Core.Path.{_≡_};
 ghost use lib.ListN.{length};
 ghost use Rattle.answers.specs.Paper.Answers.{report, after, written};
@@ -77,7 +78,7 @@ pub extern "C" fn mlgd_quantise(
     kind: u16,
     step: f32,
     samples: &[f32],
-    levels: &mut [i8],
+    levels: &mut [Cell],
     word: &mut [u8],
 ) -> u64
     ensures { λ r. ⌜ QuantisedAs (settingBy bits limit kind step) (now (samples .entry)) r (now (levels .entry)) (now (levels .exit)) (now (word .entry)) (now (word .exit)) ⌝ }
@@ -100,7 +101,7 @@ pub extern "C" fn mlgd_iterative(
     step: f32,
     samples: &[f32],
     word: &mut [u8],
-    levels: &mut [i8],
+    levels: &mut [Cell],
 ) -> u64
     ensures { λ r. ⌜ DecodedAs (matrix n m rho gamma (now (list .entry))) (settingBy bits limit kind step) (now (samples .entry)) r (now (word .entry)) (now (word .exit)) (now (levels .entry)) (now (levels .exit)) ⌝ }
 {
@@ -131,7 +132,7 @@ pub extern "C" fn mlgd_open(
     step: f32,
     samples: &[f32],
     word: &mut [u8],
-    levels: &mut [i8],
+    levels: &mut [Cell],
 ) -> u64
     ensures { λ r. ⌜ CalledAs (onRecord (now (cells .entry)) (openOf (matrix n m rho gamma (now (list .entry))) (settingBy bits limit kind step) (now (samples .entry)) (lent (recordIn (now (cells .entry))) (now (word .entry)) (now (levels .entry)))) (lent (recordIn (now (cells .entry))) (now (word .entry)) (now (levels .entry)))) r (now (cells .entry)) (now (cells .exit)) (now (word .exit)) (now (levels .exit)) ⌝ }
 {
@@ -156,7 +157,7 @@ pub extern "C" fn mlgd_step(
     list: &[u16],
     received: &[u8],
     word: &mut [u8],
-    levels: &mut [i8],
+    levels: &mut [Cell],
 ) -> u64
     ensures { λ r. ⌜ CalledAs (onRecord (now (cells .entry)) (stepOf (matrix n m rho gamma (now (list .entry))) (now (received .entry)) (lent (recordIn (now (cells .entry))) (now (word .entry)) (now (levels .entry)))) (lent (recordIn (now (cells .entry))) (now (word .entry)) (now (levels .entry)))) r (now (cells .entry)) (now (cells .exit)) (now (word .exit)) (now (levels .exit)) ⌝ }
 {

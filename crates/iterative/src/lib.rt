@@ -6,6 +6,7 @@ use answers::Report;
 pub use iterative_core::iterative_accepted;
 use matrix_check::Shape;
 use quantiser::Setting;
+use quantiser_levels::Cell;
 ghost use Rattle.answers.specs.Paper.Enums.{reportOf, saidOf};
 ghost use Rattle.matrix.specs.Paper.PlainCheck.{Accepted};
 ghost use Rattle.matrix.specs.Paper.Shapes.{matrixOf};
@@ -21,7 +22,7 @@ fn with_index(
     setting: Setting,
     samples: &[f32],
     word: &mut [u8],
-    levels: &mut [i8],
+    levels: &mut [Cell],
 ) -> Report
     requires { ⌜ CallLent (matrixOf shape (now list)) (settingOf setting) (now samples) (now word) (now levels) ⌝ }
     ensures { λ r. ⌜ Decoded (matrixOf shape (now (list .entry))) (settingOf setting) (now (samples .entry)) (reportOf r) (now (word .entry)) (now (word .exit)) (now (levels .entry)) (now (levels .exit)) ⌝ }
@@ -38,7 +39,7 @@ fn on_accepted(
     setting: Setting,
     samples: &[f32],
     word: &mut [u8],
-    levels: &mut [i8],
+    levels: &mut [Cell],
 ) -> Answer
     requires { ⌜ Accepted (matrixOf shape (now list)) ⌝ }
     ensures { λ r. ⌜ IterativeAnswered (matrixOf shape (now (list .entry))) (settingOf setting) (now (samples .entry)) (saidOf r) (now (word .entry)) (now (word .exit)) (now (levels .entry)) (now (levels .exit)) ⌝ }
@@ -58,7 +59,7 @@ pub fn iterative(
     setting: Setting,
     samples: &[f32],
     word: &mut [u8],
-    levels: &mut [i8],
+    levels: &mut [Cell],
 ) -> Answer
     ensures answer { λ r. ⌜ IterativeAnswered (matrixOf shape (now (list .entry))) (settingOf setting) (now (samples .entry)) (saidOf r) (now (word .entry)) (now (word .exit)) (now (levels .entry)) (now (levels .exit)) ⌝ }
     ensures flipping_rule { λ r. ⌜ IterativeRule (matrixOf shape (now (list .entry))) (settingOf setting) (now (samples .entry)) (now (word .entry)) (now (word .exit)) (now (levels .entry)) (saidOf r) ⌝ }

@@ -3,28 +3,23 @@
 use answers::Checked;
 use answers::Refusal;
 use answers::Report;
+use iterative_levels::Kept;
 use matrix_check::Shape;
 use quantiser::Setting;
+use quantiser_levels::Cell;
+use quantiser_levels::largest_of;
 ghost use mathlib.Core.Path.{_≡_};
 ghost use Prim.Native.Nat.{_*_, _≤_};
 ghost use lib.ListN.{length, take};
 ghost use Rattle.answers.specs.Paper.Enums.{verdictOf, reportOf};
 ghost use Rattle.packed_word.specs.Paper.Packed.{bitAt, bytesFor, distance};
 ghost use Rattle.matrix.specs.Paper.Shapes.{matrixOf};
-ghost use Rattle.quantiser_levels.specs.Paper.Samples.{mostBits, largest};
+ghost use Rattle.quantiser_levels.specs.Paper.Samples.{largest};
 ghost use Rattle.quantiser_settings.specs.Paper.Settings.{settingOf};
 ghost use Rattle.quantiser.specs.Buffers.{Fillable};
 ghost use Rattle.matrix_index.specs.Index.{Indexed};
 ghost use Rattle.iterative_core.specs.Paper.Iterative.{samplesVerdict};
 ghost use Rattle.iterative_core.specs.Calls.{CallLent, Started, Decoded};
-
-// L, the largest level of so many bits, by a name of the rounds. Only this repository's crates call it, with a width in range.
-pub fn middle_of(bits: u16) -> u8
-    requires { ⌜ (2 ≤ bits) × (bits ≤ mostBits) ⌝ }
-    ensures { λ r. ⌜ r ≡ largest bits ⌝ }
-{
-    quantiser_levels::largest_of(bits)
-}
 
 // What is asked of the setting, the samples and the written buffers: 6, 7, 8.
 // Only this repository's crates call it, after the matrix is accepted.
@@ -66,10 +61,10 @@ fn changed_bits(word: &[u8], hard: &[u8], n: usize) -> u16
 fn start(
     setting: Setting,
     samples: &[f32],
-    middle: u8,
-    levels: &mut [i8],
+    middle: Kept,
+    levels: &mut [Cell],
     bits: &mut [u8; 1023],
-    kept: &mut [u8; 1023],
+    kept: &mut [Kept; 1023],
 )
     requires { ⌜ Fillable (settingOf setting) (now samples) (now levels) × (middle ≡ largest (setting .bits)) × (length (now kept) ≡ 1023) ⌝ }
     ensures { λ _. ⌜ Started (settingOf setting) (now (samples .entry)) (now (levels .entry)) (now (levels .exit)) (now (bits .exit)) (now (kept .exit)) ⌝ }
@@ -88,14 +83,14 @@ pub fn iterative_accepted(
     setting: Setting,
     samples: &[f32],
     word: &mut [u8],
-    levels: &mut [i8],
+    levels: &mut [Cell],
 ) -> Report
     requires { ⌜ CallLent (matrixOf shape (now list)) (settingOf setting) (now samples) (now word) (now levels) × Indexed (matrixOf shape (now list)) (now index) ⌝ }
     ensures { λ r. ⌜ Decoded (matrixOf shape (now (list .entry))) (settingOf setting) (now (samples .entry)) (reportOf r) (now (word .entry)) (now (word .exit)) (now (levels .entry)) (now (levels .exit)) ⌝ }
 {
     let n = shape.n as usize;
     let limit = setting.limit;
-    let middle = middle_of(setting.bits);
+    let middle = largest_of(setting.bits);
     let mut bits = [0u8; 1023];
     let mut kept = [0u8; 1023];
     let mut hard = [0u8; 128];

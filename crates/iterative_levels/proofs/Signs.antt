@@ -12,6 +12,7 @@ use mir.ValLaws.{toZ-pos, toZ-ofZ}
 use Rattle.counting.proofs.Integers.{sub-ge, sub-lt}
 use Rattle.iterative_levels.specs.Levels.{biased}
 use Rattle.iterative_levels.proofs.Levels.{biased-le}
+use Rattle.quantiser_levels.specs.Paper.Samples.{mostLevel}
 
 -- what fits a byte fits two
 pub wider : (r : ℤ) → SFits w8 r → SFits w16 r
@@ -26,7 +27,7 @@ plus-middle : (r : ℤ) (L : ℕ) → natAbs r ≤ L → r +ℤ pos L ≡ pos (b
 plus-middle (pos k) L h = ap pos (omega arith)
 plus-middle (negsuc k) L h = sub-ge L (suc k) (L - suc k) (omega arith)
 
-module _ (r : ℤ) (L : ℕ) (few : L ≤ 127) (h : natAbs r ≤ L) (f : SFits w8 r) where
+module _ (r : ℤ) (L : ℕ) (few : L ≤ mostLevel) (h : natAbs r ≤ L) (f : SFits w8 r) where
   back : toZ w16 (ofZ w16 (toZ w8 (ofZ w8 r))) ≡ r
   back = ap (λ (z : ℤ). toZ w16 (ofZ w16 z)) (toZ-ofZ w8 r f) ∙ toZ-ofZ w16 r (wider r f)
 
@@ -46,14 +47,14 @@ minus-middle : (x L : ℕ) → pos x -ℤ pos L ≡ subℕ x L
 minus-middle x zero = sym (sub-ge x 0 (x + 0) (omega arith))
 minus-middle x (suc L) = refl
 
-sub-small : (x L : ℕ) → L ≤ 127 → x ≤ 2 * L → SFits w8 (subℕ x L)
+sub-small : (x L : ℕ) → L ≤ mostLevel → x ≤ 2 * L → SFits w8 (subℕ x L)
 sub-small x L few h =
     elim (decLt x L) [
       | yes l ↦ rw (sub-lt x L (L - x - 1) (omega arith)) (record { sfits = lt-of-lt-of-le {m = 128} (omega arith) (lit≤ tt) })
       | no g ↦ rw (sub-ge x L (x - L) (omega arith)) (record { sfits = lt-of-lt-of-le {m = 128} (omega arith) (lit≤ tt) })
     ]
 
-module _ (x L : ℕ) (few : L ≤ 127) (h : x ≤ 2 * L) where
+module _ (x L : ℕ) (few : L ≤ mostLevel) (h : x ≤ 2 * L) where
   difference-is : toZ w16 x -ℤ toZ w16 L ≡ subℕ x L
   difference-is = ap₂ _-ℤ_ (small x (omega arith)) (small L (omega arith)) ∙ minus-middle x L
 
@@ -71,6 +72,6 @@ module _ (x L : ℕ) (few : L ≤ 127) (h : x ≤ 2 * L) where
 
 -- ---- a level within the range is a signed byte
 
-pub level-byte : (r : ℤ) (L : ℕ) → L ≤ 127 → natAbs r ≤ L → SFits w8 r
+pub level-byte : (r : ℤ) (L : ℕ) → L ≤ mostLevel → natAbs r ≤ L → SFits w8 r
 level-byte (pos k) L few h = record { sfits = lt-of-lt-of-le {m = 128} (omega arith) (lit≤ tt) }
 level-byte (negsuc k) L few h = record { sfits = lt-of-lt-of-le {m = 128} (omega arith) (lit≤ tt) }

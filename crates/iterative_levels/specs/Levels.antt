@@ -1,8 +1,9 @@
 -- A level R from -L to L kept as the number R + L, and one pass over an array of such levels.
 -- Cutting at -L is then the subtraction of numbers, which stops at 0, and the bit is 1 above the middle L.
+--   mostKept                   == the largest number that a kept level's cell holds
 --   biased L R                 == R + L
 --   unbiased L x j             == the level that cell j of the array x stands for
---   nextLevel gamma top x z v  == the next level, kept so, of a bit z with v failing checks of gamma
+--   nextLevel gamma c x z v    == the next level, kept so, of a bit z with v failing checks of gamma
 --   aboveMiddle L x            == 1 where x is above the middle, else 0
 --   Bounds                     == sizes small enough for the arrays
 --   Moved                      == bits and levels after the first n of them are brought to the next round
@@ -18,6 +19,11 @@ use lib.IntN.{ℤ, pos, negsuc, natAbs, subℕ}
 use lib.ListN.{length, getD}
 use Rattle.counting.specs.Paper.Sum.{flag}
 use Rattle.counting.specs.Places.{at}
+use Rattle.quantiser_levels.specs.Paper.Samples.{mostLevel}
+
+-- a kept level is a number of eight bits
+abbrev pub mostKept : ℕ
+mostKept = 255
 
 -- R + L, for R from -L on
 abbrev pub biased : ℕ → ℤ → ℕ
@@ -38,7 +44,7 @@ aboveMiddle L x = flag (ltb L x)
 pub record Bounds (n gamma ceiling : ℕ) : Type 0 where
   pub columns : n ≤ 1023
   pub weight : gamma ≤ 255
-  pub levels : ceiling ≤ 255
+  pub levels : ceiling ≤ mostKept
 
 -- the first n bits z and levels x become z′ and x′ by the votes v; the others stay
 pub record Moved (v : List ℕ) (n gamma L ceiling : ℕ) (z x z′ x′ : List ℕ) : Type 0 where
@@ -53,7 +59,7 @@ pub record Moved (v : List ℕ) (n gamma L ceiling : ℕ) (z x z′ x′ : List 
 pub record Bounded (n L : ℕ) (R : List ℤ) : Type 0 where
   pub columns : n ≤ 1023
   pub room : n ≤ length R
-  pub largest : L ≤ 127
+  pub largest : L ≤ mostLevel
   pub within : (j : ℕ) → j < n → natAbs (getD R j (pos 0)) ≤ L
 
 -- the first n cells keep the levels R
@@ -65,5 +71,5 @@ pub record Biased (n L : ℕ) (R : List ℤ) (x : List ℕ) : Type 0 where
 pub record Restorable (n L : ℕ) (x : List ℕ) (R : List ℤ) : Type 0 where
   pub columns : n ≤ 1023
   pub room : n ≤ length R
-  pub largest : L ≤ 127
+  pub largest : L ≤ mostLevel
   pub within : (j : ℕ) → j < n → at x j ≤ 2 * L

@@ -1,14 +1,19 @@
 // Stored levels of bits: one pass of a round over them, and how they are kept between passes.
 // A level R from -L to L is kept as R + L: cutting at -L is then the subtraction that stops at 0.
-// Rests on `counting` and `packed_word`. Document 01: "Iterative voting", steps 4 to 6.
+// Rests on `counting`, and on `quantiser_levels` for the cells of levels. Document 01: "Iterative voting", steps 4 to 6.
+use quantiser_levels::Cell;
 ghost use mathlib.Core.Path.{_≡_};
 ghost use Prim.Native.Nat.{min, _+_, _-_, _*_, _<_, _≤_};
 ghost use lib.IntN.{natAbs, subℕ};
 ghost use lib.ListN.{length};
 ghost use Rattle.counting.specs.Paper.Lists.{listed, over};
-ghost use Rattle.iterative_levels.specs.Levels.{biased, unbiased, nextLevel, aboveMiddle, Bounds, Moved, Bounded, Biased, Restorable};
+ghost use Rattle.quantiser_levels.specs.Paper.Samples.{mostLevel};
+ghost use Rattle.iterative_levels.specs.Levels.{mostKept, biased, unbiased, nextLevel, aboveMiddle, Bounds, Moved, Bounded, Biased, Restorable};
 
-// x + plus - minus, cut to 0 and top.
+// A level as it is kept: from 0 to 2L.
+pub type Kept = u8;
+
+// x + plus - minus, cut to 0 and the ceiling.
 fn shifted(x: u16, plus: u16, minus: u16, ceiling: u16) -> u16
     requires { ⌜ x + plus < 65536 ⌝ }
     ensures { λ r. ⌜ r ≡ min ceiling (x + plus - minus) ⌝ }
@@ -25,22 +30,22 @@ fn shifted(x: u16, plus: u16, minus: u16, ceiling: u16) -> u16
 }
 
 // The next level of a bit z with v failing checks of gamma: E is 2v - gamma where z is 0, gamma - 2v where it is 1.
-fn next_level(x: u8, z: u8, v: u8, gamma: u16, ceiling: u16) -> u8
-    requires { ⌜ (gamma ≤ 255) × (ceiling ≤ 255) ⌝ }
+fn next_level(x: Kept, z: u8, v: u8, gamma: u16, ceiling: u16) -> Kept
+    requires { ⌜ (gamma ≤ 255) × (ceiling ≤ mostKept) ⌝ }
     ensures { λ r. ⌜ r ≡ nextLevel gamma ceiling x z v ⌝ }
 {
     let level = x as u16;
     let twice = 2 * (v as u16);
     if z == 0 {
         let y = shifted(level, twice, gamma, ceiling);
-        return y as u8;
+        return y as Kept;
     }
     let y = shifted(level, gamma, twice, ceiling);
-    y as u8
+    y as Kept
 }
 
 // The bit of a level: 1 exactly where R is above 0.
-fn is_above(x: u8, middle: u8) -> u8
+fn is_above(x: Kept, middle: Kept) -> u8
     ensures { λ r. ⌜ r ≡ aboveMiddle middle x ⌝ }
 {
     if middle < x { 1 } else { 0 }
@@ -52,10 +57,10 @@ pub fn update(
     votes: &[u8; 1023],
     n: usize,
     gamma: u16,
-    middle: u8,
+    middle: Kept,
     ceiling: u16,
     bits: &mut [u8; 1023],
-    levels: &mut [u8; 1023],
+    levels: &mut [Kept; 1023],
 )
     requires { ⌜ Bounds n gamma ceiling × (length (now bits) ≡ 1023) × (length (now levels) ≡ 1023) ⌝ }
     ensures { λ _. ⌜ Moved (now (votes .entry)) n gamma middle ceiling (now (bits .entry)) (now (levels .entry)) (now (bits .exit)) (now (levels .exit)) ⌝ }
@@ -70,25 +75,25 @@ pub fn update(
 }
 
 // R + L.
-fn bias_one(r: i8, middle: u8) -> u8
-    requires { ⌜ (middle ≤ 127) × (natAbs r ≤ middle) ⌝ }
+fn bias_one(r: Cell, middle: Kept) -> Kept
+    requires { ⌜ (middle ≤ mostLevel) × (natAbs r ≤ middle) ⌝ }
     ensures { λ x. ⌜ x ≡ biased middle r ⌝ }
 {
     let s = (r as i16) + (middle as i16);
-    s as u8
+    s as Kept
 }
 
 // And back.
-fn unbias_one(x: u8, middle: u8) -> i8
-    requires { ⌜ (middle ≤ 127) × (x ≤ 2 * middle) ⌝ }
+fn unbias_one(x: Kept, middle: Kept) -> Cell
+    requires { ⌜ (middle ≤ mostLevel) × (x ≤ 2 * middle) ⌝ }
     ensures { λ r. ⌜ r ≡ subℕ x middle ⌝ }
 {
     let s = (x as i16) - (middle as i16);
-    s as i8
+    s as Cell
 }
 
 // Keeps the first n levels as R + L. Only this repository's crates call it, with levels from -L to L.
-pub fn bias(levels: &[i8], n: usize, middle: u8, kept: &mut [u8; 1023])
+pub fn bias(levels: &[Cell], n: usize, middle: Kept, kept: &mut [Kept; 1023])
     requires { ⌜ Bounded n middle (now levels) × (length (now kept) ≡ 1023) ⌝ }
     ensures { λ _. ⌜ Biased n middle (now (levels .entry)) (now (kept .exit)) ⌝ }
 {
@@ -100,7 +105,7 @@ pub fn bias(levels: &[i8], n: usize, middle: u8, kept: &mut [u8; 1023])
 }
 
 // Writes the first n levels back. Only this repository's crates call it, with room for them.
-pub fn unbias(kept: &[u8; 1023], n: usize, middle: u8, levels: &mut [i8])
+pub fn unbias(kept: &[Kept; 1023], n: usize, middle: Kept, levels: &mut [Cell])
     requires { ⌜ Restorable n middle (now kept) (now levels) ⌝ }
     ensures { λ _. ⌜ now (levels .exit) ≡ over (listed n (unbiased middle (now (kept .entry)))) (now (levels .entry)) ⌝ }
 {

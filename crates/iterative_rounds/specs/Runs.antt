@@ -17,6 +17,7 @@ use Rattle.matrix.specs.Paper.PlainCheck.{Accepted}
 use Rattle.iterative_tally.specs.Parities.{Retallied}
 use Rattle.iterative_rounds.specs.Paper.Rounds.{State, state, End, endOf}
 use Rattle.iterative_levels.specs.Levels.{biased, unbiased, Moved}
+use Rattle.quantiser_levels.specs.Paper.Samples.{mostLevel}
 
 unfoldable pub stateOf : ℕ → List ℕ → List ℕ → State
 stateOf L z x = state (at z) (unbiased L x)
@@ -31,7 +32,7 @@ pub record Holds (n L : ℕ) (z x : List ℕ) (s : State) : Type 0 where
 
 pub record Ready (H : Matrix) (L : ℕ) (z x : List ℕ) : Type 0 where
   pub matrix : Accepted H
-  pub largest : L ≤ 127
+  pub largest : L ≤ mostLevel
   pub long-word : length z ≡ 1023
   pub long-levels : length x ≡ 1023
   pub word : Word H (at z)

@@ -1,5 +1,6 @@
 // Rounds of reliability-based iterative majority-logic decoding: one round, and rounds until they end.
 // Rests on `iterative_levels`, `iterative_tally` and `majority_votes`. Document 01: "Iterative voting", steps 2 to 6.
+use iterative_levels::Kept;
 use majority_votes::Stop;
 use matrix_check::Shape;
 ghost use Rattle.counting.specs.Places.{at};
@@ -14,9 +15,9 @@ fn round(
     shape: Shape,
     list: &[u16],
     index: &[u16],
-    middle: u8,
+    middle: Kept,
     bits: &mut [u8; 1023],
-    levels: &mut [u8; 1023],
+    levels: &mut [Kept; 1023],
     parity: &mut [u8; 1023],
     votes: &mut [u8; 1023],
 ) -> u16
@@ -39,9 +40,9 @@ pub fn run(
     list: &[u16],
     index: &[u16],
     limit: u16,
-    middle: u8,
+    middle: Kept,
     bits: &mut [u8; 1023],
-    levels: &mut [u8; 1023],
+    levels: &mut [Kept; 1023],
 ) -> Stop
     requires { ⌜ Ready (matrixOf shape (now list)) middle (now bits) (now levels) × Indexed (matrixOf shape (now list)) (now index) ⌝ }
     ensures { λ r. ⌜ Ran (matrixOf shape (now (list .entry))) middle limit (now (bits .entry)) (now (levels .entry)) (now (bits .exit)) (now (levels .exit)) (r .rounds) (r .failing) ⌝ }

@@ -19,7 +19,7 @@ use lib.Ieee.Scale.{finite}
 use lib.ListN.{length, getD}
 use borrow.Author.Tests.{leb-true, le-leb, not-false}
 use Rattle.counting.proofs.Searches.{and-left, and-right, first-clear}
-use Rattle.quantiser_levels.specs.Paper.Samples.{Setting, unitsOf, negative, mostBits, rangesFit, settingFits, largest, gain, nearestWhole}
+use Rattle.quantiser_levels.specs.Paper.Samples.{Setting, unitsOf, negative, mostBits, rangesFit, settingFits, largest, gain, nearestWhole, mostLevel}
 use Rattle.quantiser_levels.specs.Paper.Samples.{magnitude, signed, levelOf, hardOf, hardBit, notFinite, firstNotFinite}
 use Rattle.quantiser_settings.specs.Paper.Ranges.{InRange}
 
@@ -62,7 +62,11 @@ largest-some b h =
     let p : 2 ^ 1 ≤ 2 ^ (b - 1) = pow-mono {i = 1} (omega arith) in
     omega arith
 
-pub largest-most : (b : ℕ) → b ≤ mostBits → largest b ≤ 127
+-- which the name `mostLevel` stands for
+most-level : largest mostBits ≡ mostLevel
+most-level = refl
+
+pub largest-most : (b : ℕ) → b ≤ mostBits → largest b ≤ mostLevel
 largest-most b h =
     let p : 2 ^ (b - 1) ≤ 2 ^ (mostBits - 1) = pow-mono {j = mostBits - 1} (omega arith) in
     omega arith

@@ -15,6 +15,7 @@ use Rattle.matrix.specs.Paper.PlainCheck.{Accepted}
 use Rattle.iterative_rounds.specs.Paper.Rounds.{roundOf}
 use Rattle.session_record.specs.Paper.Record.{Record, empty}
 use Rattle.session.specs.Paper.Steps.{stateIn}
+use Rattle.quantiser_levels.specs.Paper.Samples.{mostLevel}
 
 -- "Opening .. replaces any record": one that stands for any
 abbrev pub blank : Record
@@ -22,7 +23,7 @@ blank = record { state = empty; bits = 0; limit = 0; k = 0; n = 0; m = 0; rho = 
 
 pub record RoundLent (H : Matrix) (L : ℕ) (word : List ℕ) (levels : List ℤ) : Type 0 where
   pub matrix : Accepted H
-  pub largest : L ≤ 127
+  pub largest : L ≤ mostLevel
   pub bytes : bytesFor (H .n) ≤ length word
   pub room : H .n ≤ length levels
   pub within : (j : ℕ) → j < H .n → natAbs (getD levels j (pos 0)) ≤ L

@@ -5,6 +5,8 @@ use answers::Refusal;
 use answers::and_then;
 use answers::refused_when;
 use matrix_check::Shape;
+use quantiser_levels::Cell;
+use quantiser_levels::largest_of;
 use session_record::Session;
 use session_record::State;
 ghost use mathlib.Core.Path.{_≡_};
@@ -80,7 +82,7 @@ fn sizes_differ(shape: Shape, session: Session) -> bool
 }
 
 // The magnitude of a level. That of -128 fits no i8.
-fn magnitude(r: i8) -> u8
+fn magnitude(r: Cell) -> u8
     ensures { λ x. ⌜ x ≡ natAbs r ⌝ }
 {
     let wide = r as i16;
@@ -91,7 +93,7 @@ fn magnitude(r: i8) -> u8
 }
 
 // Whether one of the first n levels lies beyond ±L.
-fn any_far(levels: &[i8], n: usize, middle: u8) -> bool
+fn any_far(levels: &[Cell], n: usize, middle: u8) -> bool
     requires { ⌜ n ≤ length (now levels) ⌝ }
     ensures { λ r. ⌜ r ≡ anyBelow (far middle (now (levels .entry))) n ⌝ }
 {
@@ -107,7 +109,7 @@ fn any_far(levels: &[i8], n: usize, middle: u8) -> bool
 }
 
 // Refusal 23: a spare place set in the word, or one of the first n levels beyond ±L.
-fn is_beyond(n: usize, middle: u8, word: &[u8], levels: &[i8]) -> bool
+fn is_beyond(n: usize, middle: u8, word: &[u8], levels: &[Cell]) -> bool
     requires { ⌜ (n ≤ 1023) × (bytesFor n ≤ length (now word)) × (n ≤ length (now levels)) ⌝ }
     ensures { λ r. ⌜ r ≡ beyondIn n middle (now (word .entry)) (now (levels .entry)) ⌝ }
 {
@@ -136,13 +138,13 @@ fn ask_lent(
     list: &[u16],
     received: &[u8],
     word: &[u8],
-    levels: &[i8],
+    levels: &[Cell],
 ) -> Checked
     requires { ⌜ Accepted (matrixOf shape (now list)) × Usable (recordOf session) ⌝ }
     ensures { λ r. ⌜ verdictOf r ≡ lentVerdict (matrixOf shape (now (list .entry))) (now (received .entry)) (heldOf session (now (word .entry)) (now (levels .entry))) ⌝ }
 {
     let n = shape.n as usize;
-    let middle = quantiser_levels::largest_of(session.bits);
+    let middle = largest_of(session.bits);
     let asked = syndrome::ask_word(n, received, word.len(), levels.len());
     match asked {
         Checked::Accepted => refused_when(is_beyond(n, middle, word, levels), Refusal::Beyond),
@@ -157,7 +159,7 @@ pub fn ask_step(
     list: &[u16],
     received: &[u8],
     word: &[u8],
-    levels: &[i8],
+    levels: &[Cell],
 ) -> Checked
     ensures { λ r. ⌜ verdictOf r ≡ stepVerdict (matrixOf shape (now (list .entry))) (now (received .entry)) (heldOf session (now (word .entry)) (now (levels .entry))) ⌝ }
 {

@@ -3,6 +3,7 @@
 use answers::Answer;
 use matrix_check::Shape;
 use quantiser::Setting;
+use quantiser_levels::Cell;
 use session_record::Session;
 use session_record::Turn;
 ghost use Rattle.matrix.specs.Paper.Shapes.{matrixOf};
@@ -19,7 +20,7 @@ pub fn open(
     setting: Setting,
     samples: &[f32],
     word: &mut [u8],
-    levels: &mut [i8],
+    levels: &mut [Cell],
 ) -> Answer
     ensures { λ r. ⌜ Leaves (openOf (matrixOf shape (now (list .entry))) (settingOf setting) (now (samples .entry)) (heldOf (now (session .entry)) (now (word .entry)) (now (levels .entry)))) r (now (session .exit)) (now (word .exit)) (now (levels .exit)) ⌝ }
 {
@@ -36,7 +37,7 @@ pub fn open_copy(
     setting: Setting,
     samples: &[f32],
     word: &mut [u8],
-    levels: &mut [i8],
+    levels: &mut [Cell],
 ) -> Turn
     ensures { λ r. ⌜ Leaves (openOf (matrixOf shape (now (list .entry))) (settingOf setting) (now (samples .entry)) (heldOf session (now (word .entry)) (now (levels .entry)))) (r .answer) (r .session) (now (word .exit)) (now (levels .exit)) ⌝ }
 {

@@ -3,6 +3,7 @@
 use answers::Checked;
 use matrix_check::Shape;
 use quantiser::Setting;
+use quantiser_levels::Cell;
 use session_record::Course;
 use session_record::Session;
 use session_record::Turn;
@@ -44,7 +45,7 @@ fn open_accepted(
     setting: Setting,
     samples: &[f32],
     word: &mut [u8],
-    levels: &mut [i8],
+    levels: &mut [Cell],
 ) -> Turn
     requires { ⌜ Openable (matrixOf shape (now list)) (settingOf setting) (now samples) (lent blank (now word) (now levels)) ⌝ }
     ensures { λ r. ⌜ Leaves (openedLeft (matrixOf shape (now (list .entry))) (settingOf setting) (now (samples .entry)) (lent blank (now (word .entry)) (now (levels .entry)))) (r .answer) (r .session) (now (word .exit)) (now (levels .exit)) ⌝ }
@@ -69,7 +70,7 @@ pub fn open_value(
     setting: Setting,
     samples: &[f32],
     word: &mut [u8],
-    levels: &mut [i8],
+    levels: &mut [Cell],
 ) -> Turn
     ensures { λ r. ⌜ Leaves (openOf (matrixOf shape (now (list .entry))) (settingOf setting) (now (samples .entry)) (heldOf session (now (word .entry)) (now (levels .entry)))) (r .answer) (r .session) (now (word .exit)) (now (levels .exit)) ⌝ }
 {

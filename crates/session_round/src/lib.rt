@@ -1,7 +1,10 @@
 // One step of a session, by value: the record in and out.
 // Rests on `session`, `session_asking`, `session_record`, `iterative_core`, `iterative_levels`, `packed_word`, `majority_votes` and `syndrome`. Document 01: "Rounds one at a time".
 use answers::Checked;
+use iterative_levels::Kept;
 use matrix_check::Shape;
+use quantiser_levels::Cell;
+use quantiser_levels::largest_of;
 use session_record::Course;
 use session_record::Session;
 use session_record::Turn;
@@ -13,7 +16,7 @@ ghost use Rattle.session.specs.RoundParts.{RoundLent, RoundLeft};
 ghost use Rattle.session.specs.Paper.Call.{Leaves};
 
 // Steps 4 to 6 on the word and the levels lent, and how many checks of the new word fail.
-fn round_on(shape: Shape, list: &[u16], middle: u8, word: &mut [u8], levels: &mut [i8]) -> u16
+fn round_on(shape: Shape, list: &[u16], middle: Kept, word: &mut [u8], levels: &mut [Cell]) -> u16
     requires { ⌜ RoundLent (matrixOf shape (now list)) middle (now word) (now levels) ⌝ }
     ensures { λ r. ⌜ RoundLeft (matrixOf shape (now (list .entry))) middle (now (word .entry)) (now (word .exit)) (now (levels .entry)) (now (levels .exit)) r ⌝ }
 {
@@ -39,7 +42,7 @@ fn step_accepted(
     list: &[u16],
     received: &[u8],
     word: &mut [u8],
-    levels: &mut [i8],
+    levels: &mut [Cell],
 ) -> Turn
     requires { ⌜ Steppable (matrixOf shape (now list)) (now received) (heldOf session (now word) (now levels)) ⌝ }
     ensures { λ r. ⌜ Leaves (steppedLeft (matrixOf shape (now (list .entry))) (now (received .entry)) (heldOf session (now (word .entry)) (now (levels .entry)))) (r .answer) (r .session) (now (word .exit)) (now (levels .exit)) ⌝ }
@@ -51,7 +54,7 @@ fn step_accepted(
         limit: session.limit,
     };
     let k = session.k;
-    let middle = iterative_core::middle_of(course.bits);
+    let middle = largest_of(course.bits);
     let failing = round_on(shape, list, middle, word, levels);
     let changed = packed_word::differing(&word[..need], received);
     session_record::after_round(shape, course, k + 1, failing, changed)
@@ -64,7 +67,7 @@ pub fn step_value(
     list: &[u16],
     received: &[u8],
     word: &mut [u8],
-    levels: &mut [i8],
+    levels: &mut [Cell],
 ) -> Turn
     ensures { λ r. ⌜ Leaves (stepOf (matrixOf shape (now (list .entry))) (now (received .entry)) (heldOf session (now (word .entry)) (now (levels .entry)))) (r .answer) (r .session) (now (word .exit)) (now (levels .exit)) ⌝ }
 {

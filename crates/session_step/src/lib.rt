@@ -2,6 +2,7 @@
 // Rests on `session_round` and `session_record`. Document 01: "Rounds one at a time".
 use answers::Answer;
 use matrix_check::Shape;
+use quantiser_levels::Cell;
 use session_record::Session;
 use session_record::Turn;
 ghost use Rattle.matrix.specs.Paper.Shapes.{matrixOf};
@@ -16,7 +17,7 @@ pub fn step(
     list: &[u16],
     received: &[u8],
     word: &mut [u8],
-    levels: &mut [i8],
+    levels: &mut [Cell],
 ) -> Answer
     ensures { λ r. ⌜ Leaves (stepOf (matrixOf shape (now (list .entry))) (now (received .entry)) (heldOf (now (session .entry)) (now (word .entry)) (now (levels .entry)))) r (now (session .exit)) (now (word .exit)) (now (levels .exit)) ⌝ }
 {
@@ -32,7 +33,7 @@ pub fn step_copy(
     list: &[u16],
     received: &[u8],
     word: &mut [u8],
-    levels: &mut [i8],
+    levels: &mut [Cell],
 ) -> Turn
     ensures { λ r. ⌜ Leaves (stepOf (matrixOf shape (now (list .entry))) (now (received .entry)) (heldOf session (now (word .entry)) (now (levels .entry)))) (r .answer) (r .session) (now (word .exit)) (now (levels .exit)) ⌝ }
 {

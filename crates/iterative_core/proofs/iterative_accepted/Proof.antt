@@ -14,7 +14,7 @@ use Rattle.iterative_core.proofs.iterative_accepted.Tie as tie
 abbrev entry : tie.After-start → tie.Start
 entry s = s .before .before .before .before .before .before .before .before .before .before
 
-abbrev middle : tie.After-start → tie.After-middle-of
+abbrev middle : tie.After-start → tie.After-largest-of
 middle s = s .before .before .before .before
 
 abbrev started : tie.After-run → tie.After-start
@@ -26,8 +26,8 @@ ran u = u .before .before .before .before .before .before .before
 cast-n : tie.Need-cast-n
 cast-n c = search needs
 
-middle-of-requires : tie.Need-middle-of-requires
-middle-of-requires c κs = let r = fits-reads _ (c .before .before .before .before .before .pre .0 .setting) in (r .least, r .most)
+largest-of-requires : tie.Need-largest-of-requires
+largest-of-requires c κs = let r = fits-reads _ (c .before .before .before .before .before .pre .0 .setting) in (r .least, r .most)
 
 start-requires : tie.Need-start-requires
 start-requires c κs =
@@ -39,7 +39,7 @@ start-requires c κs =
         room = omega
             (arith, p .samples, p .room-levels);
       },
-      c .before .before .before .middle-of .ensures,
+      c .before .before .before .largest-of .ensures,
       refl,
     )
 
@@ -50,25 +50,25 @@ pack-into-requires : tie.Need-pack-into-requires
 pack-into-requires c κs =
     let s = c .before .before .before in
     let p = entry s .pre .0 in
-    (p .matrix .sizes .n-most, omega (arith, p .matrix .sizes .n-most), call-hard p (s .start .ensures) (middle s .middle-of .ensures))
+    (p .matrix .sizes .n-most, omega (arith, p .matrix .sizes .n-most), call-hard p (s .start .ensures) (middle s .largest-of .ensures))
 
 run-requires : tie.Need-run-requires
 run-requires c κs =
     let s = c .before .before .before .before .before .before .before in
-    (call-ready (entry s .pre .0) (s .start .ensures) (middle s .middle-of .ensures), entry s .pre .1)
+    (call-ready (entry s .pre .0) (s .start .ensures) (middle s .largest-of .ensures), entry s .pre .1)
 
 pack-into-requires-2 : tie.Need-pack-into-requires-2
 pack-into-requires-2 c κs =
     let r = c .before .before in
     let s = started r in
     let p = entry s .pre .0 in
-    (p .matrix .sizes .n-most, p .room-word, call-bits p (s .start .ensures) (middle s .middle-of .ensures) (r .run .ensures))
+    (p .matrix .sizes .n-most, p .room-word, call-bits p (s .start .ensures) (middle s .largest-of .ensures) (r .run .ensures))
 
 unbias-requires : tie.Need-unbias-requires
 unbias-requires c κs =
     let r = ran c in
     let s = started r in
-    call-restorable (entry s .pre .0) (s .start .ensures) (middle s .middle-of .ensures) (r .run .ensures)
+    call-restorable (entry s .pre .0) (s .start .ensures) (middle s .largest-of .ensures) (r .run .ensures)
 
 slice-aggregate-changed-bits : tie.Need-slice-aggregate-changed-bits
 slice-aggregate-changed-bits c = search needs
@@ -99,7 +99,7 @@ returns c =
     let u = c .before .before .before .before .before in
     let r = ran (u .before) in
     let s = started r in
-    call-decoded (entry s .pre .0) (s .start .ensures) (middle s .middle-of .ensures) (r .run .ensures) _
+    call-decoded (entry s .pre .0) (s .start .ensures) (middle s .largest-of .ensures) (r .run .ensures) _
     (r .before .before .before .before .pack-into .ensures)
     (u .before .before .before .before .before .pack-into2 .ensures)
     (u .unbias .ensures)
@@ -111,7 +111,7 @@ iterative-accepted-spec =
     tie.close
     (tie.spec
     cast-n
-    middle-of-requires
+    largest-of-requires
     start-requires
     slice-aggregate-pack-into
     pack-into-requires

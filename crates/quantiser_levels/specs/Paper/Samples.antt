@@ -2,7 +2,7 @@
 --   unitsOf x              == the whole number of 2 ^ -149 that the magnitude of x is
 --   negative x           == x is below 0
 --   Setting               == a setting: bit width, round limit, kind of step (0 level step, 1 full scale) and step
---   mostBits             == the widest level
+--   mostBits, mostLevel  == the widest level, and the largest of that width
 --   rangesFit b limit    == the bit width and the round limit are in range
 --   stepFits d, settingFits S   == the step, the setting is in range
 --   largest b            == L, the largest level of b bits
@@ -50,6 +50,10 @@ pub record Setting : Type 0 where
 -- the widest level
 abbrev pub mostBits : ℕ
 mostBits = 8
+
+-- L at that width
+abbrev pub mostLevel : ℕ
+mostLevel = 127
 
 -- "a finite single-format float from 2^−20 to 2^20, both ends included"
 unfoldable pub stepFits : Float → Bool

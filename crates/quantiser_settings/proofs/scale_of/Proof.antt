@@ -8,7 +8,7 @@ use native.Mathlib.Omega.{arith}
 use lib.Dec.{eqb}
 use Rattle.quantiser_settings.specs.declared.Step.{Step}
 use Rattle.quantiser_settings.specs.declared.Step.the-variants.{Level, FullScale}
-use Rattle.quantiser_levels.specs.Paper.Samples.{stepFits, largest}
+use Rattle.quantiser_levels.specs.Paper.Samples.{stepFits, largest, mostLevel}
 use Rattle.quantiser_settings.specs.Paper.Settings.{settingOf, kindOf}
 use Rattle.quantiser_settings.specs.Paper.Ranges.{InRange}
 use Rattle.quantiser_settings.specs.Gain.{gainBy}
@@ -25,7 +25,7 @@ gain-is : (s : Step) (t : ℕ) → gainBy s t ≡ cond (eqb (kindOf s) 0) 1 t
 gain-is (Level d) t = refl
 gain-is (FullScale f) t = refl
 
-gain-in : (s : Step) (t : ℕ) → 0 < t → t ≤ 127 → (0 < gainBy s t) × (gainBy s t ≤ 127)
+gain-in : (s : Step) (t : ℕ) → 0 < t → t ≤ mostLevel → (0 < gainBy s t) × (gainBy s t ≤ mostLevel)
 gain-in (Level d) t h l = omega arith
 gain-in (FullScale f) t h l = (h, l)
 

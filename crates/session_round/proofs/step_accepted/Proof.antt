@@ -23,10 +23,10 @@ received s = s .args .received .now
 abbrev held : tie.Start → Held
 held s = heldOf (s .args .session) (s .args .word .now) (s .args .levels .now)
 
-abbrev middle-known : tie.After-middle-of → tie.Start
+abbrev middle-known : tie.After-largest-of → tie.Start
 middle-known c = c .before .before .before .before .before
 
-abbrev turned : tie.After-round-on → tie.After-middle-of
+abbrev turned : tie.After-round-on → tie.After-largest-of
 turned c = c .before .before .before
 
 -- the bytes of the new word
@@ -35,7 +35,7 @@ front : (c : tie.After-round-on)
     ≡ bytesFor (lent-matrix (middle-known (turned c)) .n)
 front c =
     let s = middle-known (turned c) in
-    front-long (lent-matrix s) (received s) (held s) (s .pre) _ _ _ _ (turned c .middle-of .ensures) (c .round-on .ensures)
+    front-long (lent-matrix s) (received s) (held s) (s .pre) _ _ _ _ (turned c .largest-of .ensures) (c .round-on .ensures)
 
 cast-n : tie.Need-cast-n
 cast-n c = search needs
@@ -43,14 +43,14 @@ cast-n c = search needs
 add-need : tie.Need-add-need
 add-need c = search needs
 
-middle-of-requires : tie.Need-middle-of-requires
-middle-of-requires c κs = search needs
+largest-of-requires : tie.Need-largest-of-requires
+largest-of-requires c κs = search needs
 
 round-on-requires : tie.Need-round-on-requires
 round-on-requires c κs =
     let m = c .before .before in
     let s = middle-known m in
-    step-lent (lent-matrix s) (received s) (held s) (s .pre) _ (m .middle-of .ensures)
+    step-lent (lent-matrix s) (received s) (held s) (s .pre) _ (m .largest-of .ensures)
 
 slice-reshare-prefix-differing : tie.Need-slice-reshare-prefix-differing
 slice-reshare-prefix-differing c = search needs
@@ -80,7 +80,7 @@ returns : tie.Need-returns
 returns c =
     let r = c .before .before .before .before .before .before in
     let s = middle-known (turned r) in
-    step-leaves (lent-matrix s) (received s) (held s) (s .pre) _ _ _ _ (turned r .middle-of .ensures) (r .round-on .ensures) _ _ _
+    step-leaves (lent-matrix s) (received s) (held s) (s .pre) _ _ _ _ (turned r .largest-of .ensures) (r .round-on .ensures) _ _ _
     (c .before .differing .ensures) (c .after-round .ensures .0) (c .after-round .ensures .1)
 
 pub step-accepted-spec : {M : Type 1} → statement M
@@ -89,7 +89,7 @@ step-accepted-spec =
     (tie.spec
     cast-n
     add-need
-    middle-of-requires
+    largest-of-requires
     round-on-requires
     slice-reshare-prefix-differing
     slice-aggregate-differing
