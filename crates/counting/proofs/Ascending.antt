@@ -1,4 +1,7 @@
--- Laws of numbers that ascend from place to place. Assumes nothing.
+-- Laws of numbers that ascend from place to place.
+--   ascending-lt     == a later place has the larger number
+--   ascending-once   == no number comes twice
+-- Assumes nothing.
 use mathlib.Core.Path.{ap}
 use Prim.Native.Nat.{ℕ, zero, suc, _≤_, _<_}
 use native.Mathlib.Nat.{not-suc-le-zero}

@@ -1,10 +1,14 @@
--- Binary digits of `&`, `|` and `^`. Assumes nothing.
+-- Binary digits of `&`, `|` and `^`.
+--   digit-and, digit-or, digit-xor   == a digit of `&`, `|` and `^` is that of the two digits
+--   or-one                           == a bit `|` 1 is 1
+-- Assumes nothing.
 use mathlib.Core.Path.{_≡_, refl, ap, _∙_}
 use Prim.Native.Nat.{ℕ, zero, suc, _/_, _%_, _^_, _<_}
 use native.Mathlib.Omega.{arith}
 use lib.Bits.{bitAnd, bitOr, bitXor, and-shr, and-mod, or-shr, or-mod, xor-shr, xor-mod}
 use Rattle.counting.specs.Digits.{digit}
 
+-- a digit of `&`, `|` and `^` is that of the two digits
 pub digit-and : (a b k : ℕ) → digit (bitAnd a b) k ≡ bitAnd (digit a k) (digit b k)
 digit-and a b k = ap (λ (x : ℕ). x % 2) (and-shr a b k) ∙ and-mod (a / 2 ^ k) (b / 2 ^ k) 1
 

@@ -1,4 +1,15 @@
--- Laws of whole numbers: differences of numbers, sums, and numbers cut to a range. Assumes nothing.
+-- Laws of whole numbers: differences of numbers, sums, and numbers cut to a range.
+--   sub-ge            == a - b is k where b + k is a
+--   sub-lt            == a - b is -(k + 1) where a + (k + 1) is b
+--   sub-sum           == a sum of differences is the difference of the sums
+--   abs-sub           == numbers at most c apart have a difference of magnitude at most c
+--   abs-add           == the magnitude of a sum is at most the sum of the magnitudes
+--   abs-neg           == the magnitude of -k is k
+--   cut-bound         == a number cut to a range lies in it
+--   sumℤ-cong         == sums of equal terms are equal
+--   sumℤ-difference   == a sum of many differences is the difference of the two sums
+--   sumℤ-bound        == a sum's magnitude is at most the sum of what bounds its terms
+-- Assumes nothing.
 use mathlib.Core.Path.{_≡_, refl, sym, ap, ap₂, _∙_}
 use mathlib.Core.Bool.{Bool, cond}
 use Prim.Native.Nat.{ℕ, zero, suc, min, _+_, _-_, _≤_, _<_, zero-le}
@@ -11,9 +22,11 @@ use Rattle.counting.specs.Paper.Integers.{sumℤ, cut}
 
 -- ---- a difference of two numbers, by its sign
 
+-- a - b is k where b + k is a
 pub sub-ge : (a b k : ℕ) → b + k ≡ a → subℕ a b ≡ pos k
 sub-ge a b k e = ap (λ (t : Bool). cond t (negsuc (b - suc a)) (pos (a - b))) (le-ltb a b (omega arith)) ∙ ap pos (omega arith)
 
+-- a - b is -(k + 1) where a + (k + 1) is b
 pub sub-lt : (a b k : ℕ) → a + suc k ≡ b → subℕ a b ≡ negsuc k
 sub-lt a b k e = ap (λ (t : Bool). cond t (negsuc (b - suc a)) (pos (a - b))) (lt-ltb a b (omega arith)) ∙ ap negsuc (omega arith)
 
@@ -48,6 +61,7 @@ sub-sum x y a b =
 
 -- ---- magnitudes
 
+-- numbers at most c apart have a difference of magnitude at most c
 pub abs-sub : (a b c : ℕ) → a ≤ b + c → b ≤ a + c → natAbs (subℕ a b) ≤ c
 abs-sub a b c h l =
     elim (decLt a b) [
@@ -55,12 +69,14 @@ abs-sub a b c h l =
       | no g ↦ rw (sub-ge a b (a - b) (omega arith)) (omega arith)
     ]
 
+-- the magnitude of a sum is at most the sum of the magnitudes
 pub abs-add : (x y : ℤ) → natAbs (x +ℤ y) ≤ natAbs x + natAbs y
 abs-add (pos a) (pos b) = omega arith
 abs-add (pos a) (negsuc b) = abs-sub a (suc b) (a + suc b) (omega arith) (omega arith)
 abs-add (negsuc a) (pos b) = abs-sub b (suc a) (suc a + b) (omega arith) (omega arith)
 abs-add (negsuc a) (negsuc b) = omega arith
 
+-- the magnitude of -k is k
 pub abs-neg : (k : ℕ) → natAbs (negℤ (pos k)) ≡ k
 abs-neg zero = refl
 abs-neg (suc k) = refl
@@ -72,6 +88,7 @@ cut-bound L (negsuc k) = omega (arith, abs-neg (min (suc k) L))
 
 -- ---- sums
 
+-- sums of equal terms are equal
 pub sumℤ-cong : (k : ℕ) {f g : ℕ → ℤ} → ((i : ℕ) → i < k → f i ≡ g i) → sumℤ k f ≡ sumℤ k g
 unfolding sumℤ
 sumℤ-cong zero h = refl

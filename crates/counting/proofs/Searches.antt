@@ -1,4 +1,24 @@
--- Laws of searches: `any` and `first`. Assumes nothing.
+-- Laws of searches: `any` and `first`.
+--   never                                 == a test that passes does not fail
+--   cases                                 == a test is true or false, with the equation
+--   and-left, and-right                   == where a conjunction passes both parts do
+--   and-both                              == where both parts pass it passes
+--   or-left, or-right                     == where a disjunction fails both parts do
+--   or-neither                            == where both parts fail it fails
+--   any-step                              == `any` below one place more is `any` before it or the test there
+--   any-none                              == `any` fails where no place passes
+--   any-at                                == it passes where some place does
+--   any-found                             == where `any` passes some place does
+--   any-clear                             == where `any` fails no place passes
+--   first-none                            == `first` is the bound where no place passes
+--   first-at                              == it is the place that passes after places that do not
+--   first-is                              == it is at most the bound, its place passes where it is below, and none before it does
+--   first-le, first-holds, first-before   == what is known of a first place, in three parts
+--   first-clear                           == no place passes where the first place is the bound
+--   first-reads                           == below the bound it is the first place at which the statement holds that the test decides
+--   first-unique                          == the first place of a statement that the test decides is what `first` gives
+--   any-cong, first-cong                  == tests that agree below the bound give the same
+-- Assumes nothing.
 use mathlib.Core.Path.{_≡_, refl, sym, ap, subst, _∙_}
 use mathlib.Core.Bool.{Bool, true, false, _&&_, _||_, or-true}
 use mathlib.Core.Logic.{⊎-elim}
@@ -28,6 +48,7 @@ pub and-right : (a b : Bool) → (a && b) ≡ true → b ≡ true
 and-right true b e = e
 and-right false b e = absurd (never (sym e))
 
+-- where both parts pass it passes
 pub and-both : (a b : Bool) → a ≡ true → b ≡ true → (a && b) ≡ true
 and-both a b e f = rw (e, f)
 
@@ -40,6 +61,7 @@ pub or-right : (a b : Bool) → (a || b) ≡ false → b ≡ false
 or-right true b e = absurd (never e)
 or-right false b e = e
 
+-- where both parts fail it fails
 pub or-neither : (a b : Bool) → a ≡ false → b ≡ false → (a || b) ≡ false
 or-neither a b e f = rw (e, f)
 
@@ -49,17 +71,20 @@ module _ (t : ℕ → Bool) where
   unfolding anyBelow
   any-step k = ap (anyBelow t) (add-one k)
 
+  -- `any` fails where no place passes
   pub any-none : (k : ℕ) → ((i : ℕ) → i < k → t i ≡ false) → anyBelow t k ≡ false
   unfolding anyBelow
   any-none zero h = refl
   any-none (suc k) h = rw (any-none k (λ i l. h i (omega arith)), h k (omega arith))
 
+  -- it passes where some place does
   pub any-at : (k i : ℕ) → i < k → t i ≡ true → anyBelow t k ≡ true
   unfolding anyBelow
   any-at zero i l e = absurd (not-suc-le-zero l)
   any-at (suc k) i l e =
       ⊎-elim (λ q. let h : t k ≡ true = ap t (sym q) ∙ e in rw h (or-true (anyBelow t k))) (λ m. rw (any-at k i m e)) (eq-or-lt-of-le (le-of-suc-le-suc l))
 
+  -- where `any` passes some place does
   pub any-found : (k : ℕ) → anyBelow t k ≡ true → (i : ℕ) × (i < k) × (t i ≡ true)
   unfolding anyBelow
   any-found zero e = absurd (never (sym e))
@@ -67,6 +92,7 @@ module _ (t : ℕ → Bool) where
       cases (anyBelow t k) (λ y. let f : (i : ℕ) × (i < k) × (t i ≡ true) = any-found k y in (f .0, omega (arith, f .1), f .2))
       (λ o. (k, omega arith, rw o at e))
 
+  -- where `any` fails no place passes
   pub any-clear : (k : ℕ) → anyBelow t k ≡ false → (i : ℕ) → i < k → t i ≡ false
   any-clear k e i l = cases (t i) (λ y. absurd (never (sym (any-at k i l y) ∙ e))) (λ o. o)
 
@@ -100,6 +126,7 @@ module _ (t : ℕ → Bool) where
       (λ y. rw y (omega arith, λ l. y, λ i l. any-clear k o i l))
       (λ n. rw n (omega arith, λ l. absurd (omega arith), λ i l. ⊎-elim (λ q. ap t q ∙ n) (λ m. any-clear k o i m) (eq-or-lt-of-le (le-of-suc-le-suc l))))))
 
+  -- what is known of a first place, in three parts
   pub first-le : (k : ℕ) → first t k ≤ k
   first-le k = first-is k .0
 
@@ -118,6 +145,7 @@ module _ (t : ℕ → Bool) where
   first-reads k yes′ no′ l =
       record { below = l; here = yes′ (first t k) (first-holds k l); before = λ y m. no′ y (first-before k y m) }
 
+  -- the first place of a statement that the test decides is what `first` gives
   pub first-unique : {P : ℕ → Type 0} (k x : ℕ) → ((i : ℕ) → t i ≡ true → P i) → ((i : ℕ) → t i ≡ false → P i → ⊥) → FirstAt P k x → first t k ≡ x
   first-unique k x yes′ no′ f =
       first-at k x (f .below) (λ j l. cases (t j) (λ y. absurd (f .before j l (yes′ j y))) (λ n. n))

@@ -1,4 +1,6 @@
--- Laws of a run of stores (`sets` of lib.Seq). Assumes nothing.
+-- Laws of a run of stores (`sets` of lib.Seq).
+--   sets-append   == a run of stores in two parts is one part after the other
+-- Assumes nothing.
 use mathlib.Core.Path.{_≡_}
 use mathlib.Core.List.{List, [], _∷_, _++_}
 use Prim.Native.Nat.{ℕ, suc, _+_}

@@ -1,4 +1,32 @@
--- Laws of sums. Assumes nothing.
+-- Laws of sums.
+--   sum-cong                 == sums of equal terms are equal
+--   sum-le                   == a sum of terms that are no larger is no larger
+--   sum-zero                 == a sum of zeros is 0
+--   sum-bound                == k terms of at most b each add up to at most k * b
+--   sum-add                  == the sum of f i + g i is the sum of f and that of g
+--   sum-mul, sum-mul-right   == a factor of every term is one of the sum
+--   sum-swap                 == a double sum is the same in either order
+--   sum-append               == a sum in two parts
+--   sum-flat                 == a sum over m rows of rho terms each
+--   sum-term                 == a term is at most the sum
+--   sum-pos                  == a sum that is not 0 has a term that is not 0
+--   sum-one                  == terms of at most 1 of which at most one is not 0 add up to at most 1
+--   sum-two                  == a sum with two terms that are not 0 is at least 2
+--   same-refl                == `same` of a number and itself is 1
+--   same-ne                  == `same` of two different numbers is 0
+--   sum-pick                 == the sum that picks one term
+--   same-le                  == `same` is at most 1
+--   same-pos                 == where `same` is not 0 the numbers are equal
+--   same-sym                 == `same` is the same whichever number is named first
+--   differ-eq, differ-ne     == `unequal` is 0 of equal numbers and 1 of different ones
+--   differ-le                == `unequal` is at most 1
+--   differ-zero              == where `unequal` is 0 the numbers are equal
+--   differ-sym               == `unequal` is the same whichever number is named first
+--   differ-triangle          == a and b differ only where x and a, x and y, or y and b do
+--   differ-bits              == bits differ where their sum is odd
+--   sum-part                 == the first terms are no more than all of them
+--   sum-next                 == nor are the first terms and the next
+-- Assumes nothing.
 use mathlib.Core.Path.{_≡_, refl, sym, ap, ap₂, _∙_}
 use mathlib.Core.Logic.{inl, inr}
 use mathlib.Core.Bool.{Bool, not}
@@ -9,31 +37,37 @@ use native.Mathlib.Omega.{arith}
 use borrow.Author.Tests.{eq-eqb, ne-eqb}
 use Rattle.counting.specs.Paper.Sum.{sumBelow, flag, same, unequal}
 
+-- sums of equal terms are equal
 pub sum-cong : (k : ℕ) {f g : ℕ → ℕ} → ((i : ℕ) → i < k → f i ≡ g i) → sumBelow k f ≡ sumBelow k g
 unfolding sumBelow
 sum-cong zero h = refl
 sum-cong (suc k) h = ap₂ _+_ (sum-cong k (λ i l. h i (omega arith))) (h k (omega arith))
 
+-- a sum of terms that are no larger is no larger
 pub sum-le : (k : ℕ) {f g : ℕ → ℕ} → ((i : ℕ) → i < k → f i ≤ g i) → sumBelow k f ≤ sumBelow k g
 unfolding sumBelow
 sum-le zero h = zero-le
 sum-le (suc k) h = omega (arith, sum-le k (λ i l. h i (omega arith)), h k (omega arith))
 
+-- a sum of zeros is 0
 pub sum-zero : (k : ℕ) {f : ℕ → ℕ} → ((i : ℕ) → i < k → f i ≡ 0) → sumBelow k f ≡ 0
 unfolding sumBelow
 sum-zero zero h = refl
 sum-zero (suc k) h = omega (arith, sum-zero k (λ i l. h i (omega arith)), h k (omega arith))
 
+-- k terms of at most b each add up to at most k * b
 pub sum-bound : (k b : ℕ) {f : ℕ → ℕ} → ((i : ℕ) → i < k → f i ≤ b) → sumBelow k f ≤ k * b
 unfolding sumBelow
 sum-bound zero b h = zero-le
 sum-bound (suc k) b h = omega (arith, sum-bound k b (λ i l. h i (omega arith)), h k (omega arith))
 
+-- the sum of f i + g i is the sum of f and that of g
 pub sum-add : (k : ℕ) (f g : ℕ → ℕ) → sumBelow k (λ i. f i + g i) ≡ sumBelow k f + sumBelow k g
 unfolding sumBelow
 sum-add zero f g = refl
 sum-add (suc k) f g = omega (arith, sum-add k f g)
 
+-- a factor of every term is one of the sum
 pub sum-mul : (k a : ℕ) (f : ℕ → ℕ) → sumBelow k (λ i. a * f i) ≡ a * sumBelow k f
 unfolding sumBelow
 sum-mul zero a f = sym (mul-zero a)
@@ -44,6 +78,7 @@ unfolding sumBelow
 sum-mul-right zero a f = sym (zero-mul a)
 sum-mul-right (suc k) a f = omega (arith, sum-mul-right k a f, add-mul (sumBelow k f) (f k) a)
 
+-- a double sum is the same in either order
 pub sum-swap : (m n : ℕ) (f : ℕ → ℕ → ℕ) → sumBelow m (λ i. sumBelow n (λ j. f i j)) ≡ sumBelow n (λ j. sumBelow m (λ i. f i j))
 unfolding sumBelow
 sum-swap zero n f = sym (sum-zero n (λ j l. refl))
@@ -56,6 +91,7 @@ unfolding sumBelow
 sum-append a zero f = rw (add-zero a) (omega arith)
 sum-append a (suc b) f = rw (add-suc a b) (omega (arith, sum-append a b f))
 
+-- a sum over m rows of rho terms each
 pub sum-flat : (m rho : ℕ) (f : ℕ → ℕ) → sumBelow (m * rho) f ≡ sumBelow m (λ i. sumBelow rho (λ k. f (i * rho + k)))
 unfolding sumBelow
 sum-flat zero rho f = rw (zero-mul rho)
@@ -106,10 +142,12 @@ sum-two (suc k) f a b ha hb ne pa pb =
 
 -- ---- tests
 
+-- `same` of a number and itself is 1
 pub same-refl : (a : ℕ) → same a a ≡ 1
 unfolding same
 same-refl a = ap flag (eq-eqb a a refl)
 
+-- `same` of two different numbers is 0
 pub same-ne : (a b : ℕ) → (a ≡ b → ⊥) → same a b ≡ 0
 unfolding same
 same-ne a b h = ap flag (ne-eqb a b h)
@@ -127,18 +165,22 @@ sum-pick (suc k) f a h =
       | no ne ↦ omega (arith, ap (λ (x : ℕ). x * f k) (same-ne a k ne), zero-mul (f k), sum-pick k f a (omega arith))
     ]
 
+-- `same` is at most 1
 pub same-le : (a b : ℕ) → same a b ≤ 1
 same-le a b =
     elim (ℕ-discrete a b) [ yes e ↦ omega (arith, ap (same a) (sym e), same-refl a) | no ne ↦ omega (arith, same-ne a b ne) ]
 
+-- where `same` is not 0 the numbers are equal
 pub same-pos : (a b : ℕ) → 0 < same a b → a ≡ b
 same-pos a b h = elim (ℕ-discrete a b) [ yes e ↦ e | no ne ↦ omega (arith, same-ne a b ne) ]
 
+-- `same` is the same whichever number is named first
 pub same-sym : (a b : ℕ) → same a b ≡ same b a
 same-sym a b =
     elim (ℕ-discrete a b)
     [ yes e ↦ ap₂ same e (sym e) | no ne ↦ same-ne a b ne ∙ sym (same-ne b a (λ e. ne (sym e))) ]
 
+-- `unequal` is 0 of equal numbers and 1 of different ones
 pub differ-eq : (a b : ℕ) → a ≡ b → unequal a b ≡ 0
 unfolding unequal
 differ-eq a b h = ap (λ (t : Bool). flag (not t)) (eq-eqb a b h)
@@ -147,18 +189,22 @@ pub differ-ne : (a b : ℕ) → (a ≡ b → ⊥) → unequal a b ≡ 1
 unfolding unequal
 differ-ne a b h = ap (λ (t : Bool). flag (not t)) (ne-eqb a b h)
 
+-- `unequal` is at most 1
 pub differ-le : (a b : ℕ) → unequal a b ≤ 1
 differ-le a b =
     elim (ℕ-discrete a b) [ yes e ↦ omega (arith, differ-eq a b e) | no ne ↦ omega (arith, differ-ne a b ne) ]
 
+-- where `unequal` is 0 the numbers are equal
 pub differ-zero : (a b : ℕ) → unequal a b ≡ 0 → a ≡ b
 differ-zero a b h = elim (ℕ-discrete a b) [ yes e ↦ e | no ne ↦ omega (arith, differ-ne a b ne) ]
 
+-- `unequal` is the same whichever number is named first
 pub differ-sym : (a b : ℕ) → unequal a b ≡ unequal b a
 differ-sym a b =
     elim (ℕ-discrete a b)
     [ yes e ↦ differ-eq a b e ∙ sym (differ-eq b a (sym e)) | no ne ↦ differ-ne a b ne ∙ sym (differ-ne b a (λ e. ne (sym e))) ]
 
+-- a and b differ only where x and a, x and y, or y and b do
 pub differ-triangle : (a b x y : ℕ) → unequal a b ≤ unequal x a + unequal x y + unequal y b
 differ-triangle a b x y =
     elim (ℕ-discrete a b) [

@@ -1,4 +1,20 @@
--- Laws of lists by their places, and of buffers overwritten at the front. Assumes nothing.
+-- Laws of lists by their places, and of buffers overwritten at the front.
+--   length-listed                  == the list of k values has length k
+--   getD-listed                    == the value at place i of the list is f i
+--   listed-cong                    == lists of equal values are equal
+--   listed-getD                    == a list is the list of its values
+--   length-over                    == a buffer overwritten at the front stays as long as it was
+--   getD-over-new, getD-over-old   == the written places have the new values, the others stay
+--   take-over                      == the front of the buffer is what was written
+--   drop-over                      == the rest of the buffer is what stood there
+--   over-none                      == where nothing is written yet the buffer is as it was
+--   over-more                      == one store more writes one place more
+--   stored                         == what stands at a place after a store: the stored value there, the old one elsewhere
+--   zeros                          == an array of zeros is zero at every place, past its end too
+--   over-long                      == a buffer that has been written stays as long as it was
+--   over-step                      == a store of the next value writes one place more
+--   over-over                      == of two writings of one length the later stands
+-- Assumes nothing.
 use mathlib.Core.Path.{_≡_, refl, sym, ap, _∙_}
 use mathlib.Core.List.{List, [], _∷_, _++_}
 use mathlib.Core.Logic.{_⊎_, inl, inr, ⊎-elim}
@@ -13,6 +29,7 @@ use lib.Seq.{set-at, getD-set-same, getD-set-other, ext-getD}
 use Rattle.counting.specs.Paper.Lists.{listed, over}
 
 module _ {A : Type 0} where
+  -- the list of k values has length k
   pub length-listed : (k : ℕ) (f : ℕ → A) → length (listed k f) ≡ k
   unfolding listed
   length-listed zero f = refl
@@ -39,6 +56,7 @@ module _ {A : Type 0} where
       ext-getD d (listed (length l) (λ i. getD l i d)) l (length-listed (length l) (λ i. getD l i d))
       (λ i h. getD-listed (length l) (λ i. getD l i d) i d (omega (arith, length-listed (length l) (λ i. getD l i d))))
 
+  -- a buffer overwritten at the front stays as long as it was
   pub length-over : (new old : List A) → length new ≤ length old → length (over new old) ≡ length old
   unfolding over
   length-over new old h =
@@ -58,10 +76,12 @@ module _ {A : Type 0} where
       ∙ getD-drop (length new) old (i - length new) d
       ∙ ap (λ (x : ℕ). getD old x d) e
 
+  -- the front of the buffer is what was written
   pub take-over : (new old : List A) → take (length new) (over new old) ≡ new
   unfolding over
   take-over new old = take-append-seam new (drop (length new) old)
 
+  -- the rest of the buffer is what stood there
   pub drop-over : (new old : List A) → drop (length new) (over new old) ≡ drop (length new) old
   unfolding over
   drop-over new old = drop-append-seam new (drop (length new) old)

@@ -17,15 +17,18 @@ module _ (H : Matrix) (w : List ℕ) where
   unfolding failingOf
   says v e = ap (λ (x : Verdict). after x (report 0 0 (failing H (bitAt w)) 0)) e
 
+  -- the matrix is refused: the check's number and place
   pub failing-matrix : (k x : ℕ) → refused k x ≡ checkOf H → refusal k x ≡ failingOf H w
   unfolding failingVerdict
   failing-matrix k x e = sym (says (refused k x) (rw (sym e)))
 
   module _ (a : checkOf H ≡ accepted) where
+    -- what is asked of the received word refuses it
     pub failing-refused : (k x : ℕ) → wordVerdict (H .n) w (bytesFor (H .n)) (H .n) ≡ refused k x → refusal k x ≡ failingOf H w
     unfolding failingVerdict
     failing-refused k x e = sym (says (refused k x) (rw (a, e)))
 
+    -- nothing is refused: the count
     pub failing-says : wordVerdict (H .n) w (bytesFor (H .n)) (H .n) ≡ accepted → report 0 0 (failing H (bitAt w)) 0 ≡ failingOf H w
     unfolding failingVerdict
     failing-says e = sym (says accepted (rw (a, e)))

@@ -1,4 +1,8 @@
--- A setting that stands for another gives the same answers and writes the same. Assumes nothing.
+-- A setting that stands for another gives the same answers and writes the same.
+--   unfit-verdict     == a setting out of range is refused as 6, after the matrix check
+--   iterative-alike   == what iterative voting answers by a setting's stand-in it answers by the setting
+--   quantise-alike    == what the quantiser answers by a setting's stand-in it answers by the setting
+-- Assumes nothing.
 use mathlib.Core.Path.{_≡_, refl, sym, subst, _∙_}
 use mathlib.Core.Bool.{false}
 use mathlib.Core.List.{List}
@@ -32,6 +36,7 @@ module _ (v : Verdict) where
       go accepted = refl
       go (refused k x) = refl
 
+-- a setting out of range is refused as 6, after the matrix check
 pub unfit-verdict : (H : Matrix) (S : Setting) (xs : List Float) (b l : ℕ) → settingFits S ≡ false
     → iterativeVerdict H S xs b l ≡ andThen (checkOf H) (refused 6 0)
 unfolding iterativeVerdict samplesVerdict
@@ -42,6 +47,7 @@ unfolding quantiseVerdict
 unfit-quantise S xs l b e = rw e
 
 module _ (S T : Setting) (st : StandsFor S T) (xs : List Float) (said : Said) (w w′ : List ℕ) (ls ls′ : List ℤ) where
+  -- what iterative voting answers by a setting's stand-in it answers by the setting
   pub iterative-alike : (H : Matrix) → IterativeAnswered H T xs said w w′ ls ls′ → IterativeAnswered H S xs said w w′ ls ls′
   unfolding iterativeOf
   iterative-alike H a = cases (settingFits S) (λ y. subst (λ (X : Setting). IterativeAnswered H X xs said w w′ ls ls′) (st .same y) a) unfit
@@ -56,6 +62,7 @@ module _ (S T : Setting) (st : StandsFor S T) (xs : List Float) (said : Said) (w
             levels = a .levels ∙ rw (vT, vS) (keeps-six (checkOf H) (iterativeLevels H T xs) ls ∙ sym (keeps-six (checkOf H) (iterativeLevels H S xs) ls));
           }
 
+-- what the quantiser answers by a setting's stand-in it answers by the setting
 pub quantise-alike : (S T : Setting) → StandsFor S T → (xs : List Float) (v : Verdict) (ls ls′ : List ℤ) (w w′ : List ℕ) → Quantised T xs v ls ls′ w w′
     → Quantised S xs v ls ls′ w w′
 quantise-alike S T st xs v ls ls′ w w′ q = cases (settingFits S) (λ y. subst (λ (X : Setting). Quantised X xs v ls ls′ w w′) (st .same y) q) unfit

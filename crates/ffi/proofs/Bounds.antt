@@ -1,4 +1,9 @@
--- The numbers of every answer have room in its code. Assumes nothing.
+-- The numbers of every answer have room in its code.
+--   failing-small     == a count of failing checks has room
+--   report-small      == a one-step report on an accepted matrix has room
+--   one-step-small    == every answer of one-step voting has room
+--   iterative-small   == every answer of iterative voting has room, as its rounds are within the round limit
+-- Assumes nothing.
 use mathlib.Core.Path.{_≡_, refl}
 use mathlib.Core.Bool.{Bool, true, false, cond}
 use mathlib.Core.List.{List}
@@ -56,6 +61,7 @@ report-small H a z =
       changed = omega (arith, distance-le (H .n) (stepWord H z) z, a .sizes .n-most);
     }
 
+-- every answer of one-step voting has room
 pub one-step-small : (H : Matrix) (w : List ℕ) (room : ℕ) → Small (oneStepOf H w room)
 unfolding oneStepOf oneStepVerdict
 one-step-small H w room = after-small (checkOf H) _ _ (λ e. report-small H (accepted-is H e) (bitAt w))

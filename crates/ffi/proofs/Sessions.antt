@@ -1,4 +1,10 @@
--- Sessions across the exported functions: room for the answer, the setting's stand-in, and the cells of a record. Assumes nothing.
+-- Sessions across the exported functions: room for the answer, the setting's stand-in, and the cells of a record.
+--   open-small, step-small   == what opening and a step say has room in its code
+--   open-alike               == a setting that stands for another opens alike
+--   called                   == what a call leaves, by what the turn says and leaves
+--   on-record                == lent as many cells as a record's, the call is the one on that record
+--   no-record                == any other number of cells is refused as 7
+-- Assumes nothing.
 use mathlib.Core.Path.{_≡_, refl, sym, ap, ap₂, subst, _∙_}
 use mathlib.Core.Bool.{Bool}
 use mathlib.Core.List.{List}
@@ -48,6 +54,7 @@ says-small H a course k r z h =
       changed = omega (arith, changed-le H z r, a .sizes .n-most);
     }
 
+-- what opening and a step say has room in its code
 pub open-small : (H : Matrix) (S : Setting) (xs : List Float) (h : Held) → Small (openOf H S xs h .said)
 open-small H S xs h =
     verdict-cases (openVerdict H S xs h)

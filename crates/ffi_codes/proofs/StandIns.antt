@@ -1,4 +1,9 @@
--- The program's setting for each kind of step stands for the lent one. Assumes nothing.
+-- The program's setting for each kind of step stands for the lent one.
+--   other-kind                   == a setting with a step of another kind is out of range
+--   zero-step                    == so is one with the step 0
+--   stands-level, stands-scale   == for the kinds 0 and 1 the setting with the lent step stands for the lent one
+--   stands-none                  == for any other kind the setting with the step 0 does
+-- Assumes nothing.
 use mathlib.Core.Path.{_≡_, refl, sym, ap, _∙_}
 use mathlib.Core.Bool.{Bool, true, false, _&&_}
 use Prim.Native.Nat.{ℕ, _<_}
@@ -35,6 +40,7 @@ stands-scale bits limit kind step e =
     let q : settingBy bits limit 1 step ≡ settingBy bits limit kind step = ap (λ (k : ℕ). settingBy bits limit k step) (sym e) in
     record { fits = ap settingFits q; same = λ y. q }
 
+-- for any other kind the setting with the step 0 does
 pub stands-none : (bits limit kind : ℕ) (step : Float) → 1 < kind → StandsFor (settingBy bits limit kind step) (settingBy bits limit 0 (ofBits binary32 0))
 stands-none bits limit kind step h =
     record {

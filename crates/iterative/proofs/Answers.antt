@@ -1,5 +1,11 @@
 -- What is promised of an answer of iterative voting: its rounds are at most the limit; decoded says that no check fails, failed that one
--- does and that the rounds are at the limit. Assumes nothing.
+-- does and that the rounds are at the limit.
+--   decoded-by, failed-by   == the outcome is 0 where no check fails, 1 where one does
+--   answer-promised         == an answer keeps all that is promised of it
+--   rounds-at-most-limit    == its rounds are at most the limit
+--   decoded-only-clean      == decoded says that no check fails
+--   failed-only-at-limit    == failed says that a check fails and that the rounds are at the limit
+-- Assumes nothing.
 use mathlib.Core.Path.{_≡_, refl, sym, ap, _∙_}
 use mathlib.Core.Logic.{inl, inr}
 use mathlib.Core.List.{List}
@@ -17,6 +23,7 @@ use Rattle.iterative_rounds.proofs.Ends.{rounds-within, fails-at-limit}
 
 -- ---- an outcome by the failing checks
 
+-- the outcome is 0 where no check fails, 1 where one does
 pub decoded-by : (f : ℕ) → f ≡ 0 → outcomeBy f ≡ 0
 decoded-by f e = rw (eq-eqb f 0 e)
 
@@ -43,6 +50,7 @@ said-report : (v : Verdict) (a : Said) (o k f c : ℕ) → after v a ≡ report 
 said-report accepted a o k f c e = e
 said-report (refused x y) a o k f c e = absurd (no-report x y o k f c e)
 
+-- an answer keeps all that is promised of it
 pub answer-promised : (H : Matrix) (S : Setting) (xs : List Float) (bytes levels o k f c : ℕ) → iterativeOf H S xs bytes levels ≡ report o k f c
     → Promised (S .limit) o k f
 unfolding iterativeOf reportAt endFrom
@@ -60,11 +68,14 @@ answer-promised H S xs bytes levels o k f c e =
 -- ---- the same, one by one
 
 module _ (H : Matrix) (S : Setting) (xs : List Float) (bytes levels : ℕ) where
+  -- its rounds are at most the limit
   pub rounds-at-most-limit : (o k f c : ℕ) → iterativeOf H S xs bytes levels ≡ report o k f c → k ≤ S .limit
   rounds-at-most-limit o k f c e = answer-promised H S xs bytes levels o k f c e .within
 
+  -- decoded says that no check fails
   pub decoded-only-clean : (k f c : ℕ) → iterativeOf H S xs bytes levels ≡ report 0 k f c → f ≡ 0
   decoded-only-clean k f c e = answer-promised H S xs bytes levels 0 k f c e .decoded refl
 
+  -- failed says that a check fails and that the rounds are at the limit
   pub failed-only-at-limit : (k f c : ℕ) → iterativeOf H S xs bytes levels ≡ report 1 k f c → (k ≡ S .limit) × (0 < f)
   failed-only-at-limit k f c e = answer-promised H S xs bytes levels 1 k f c e .failed refl

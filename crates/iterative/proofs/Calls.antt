@@ -28,6 +28,7 @@ module _ (H : Matrix) (S : Setting) (xs : List Float) (w : List ℕ) (ls : List 
   unfolding iterativeOf
   kept k x said v e = record { answer = e ∙ rw v refl; word = rw v refl; levels = rw v refl }
 
+  -- the matrix is refused: the check's number and place
   pub refused-matrix : (k x : ℕ) (said : Said) → checkOf H ≡ refused k x → said ≡ refusal k x → IterativeAnswered H S xs said w w ls ls
   unfolding iterativeVerdict
   refused-matrix k x said c e = kept k x said (rw c refl) e
@@ -38,10 +39,12 @@ module _ (H : Matrix) (S : Setting) (xs : List Float) (w : List ℕ) (ls : List 
     unfolding iterativeVerdict
     asked = rw (is-accepted H a)
 
+    -- what is asked of setting and samples refuses them
     pub refused-samples : (k x : ℕ) (said : Said) → samplesVerdict (H .n) S xs (length w) (length ls) ≡ refused k x → said ≡ refusal k x
         → IterativeAnswered H S xs said w w ls ls
     refused-samples k x said v e = kept k x said (asked ∙ v) e
 
+    -- nothing is refused: what the core leaves
     pub answered-decoded : (said : Said) (w′ : List ℕ) (ls′ : List ℤ) → samplesVerdict (H .n) S xs (length w) (length ls) ≡ accepted
         → Decoded H S xs said w w′ ls ls′ → IterativeAnswered H S xs said w w′ ls ls′
     unfolding iterativeOf

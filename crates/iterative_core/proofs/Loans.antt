@@ -41,6 +41,7 @@ module _ (H : Matrix) (S : Setting) (xs : List Float) (w : List ℕ) (ls : List 
         room-levels = fit .2;
       }
 
+  -- the same of the whole call
   pub verdict-lent : iterativeVerdict H S xs (length w) (length ls) ≡ accepted → CallLent H S xs w ls
   unfolding iterativeVerdict
   verdict-lent e = let p5 = passed-on _ _ e in samples-lent (accepted-is H (p5 .0)) (p5 .1)

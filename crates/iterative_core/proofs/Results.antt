@@ -1,4 +1,17 @@
--- From the samples to the arrays of a running decoder, and from where it stops to what is written and counted. Assumes nothing.
+-- From the samples to the arrays of a running decoder, and from where it stops to what is written and counted.
+--   levels-length     == filling the levels leaves their buffer as long as it was
+--   filled-bounded    == the levels filled lie from -L to L, so they can be kept as numbers
+--   filled-started    == the levels kept as numbers and the hard bits are those of a started decoder
+--   start-bound       == the levels at the start lie from -L to L
+--   states-bound      == so do those after k rounds
+--   end-bound         == so do those at the end
+--   packed-room       == a buffer with room for a word still has it after one is packed into it
+--   call-ready        == the arrays of a call are ready for a round
+--   call-hard         == the hard bits are bits
+--   call-bits         == the bits where the decoder stops are bits
+--   call-restorable   == the levels where it stops can be written back
+--   call-decoded      == what is packed, stored and counted of them is what the call leaves
+-- Assumes nothing.
 use mathlib.Core.Path.{_≡_, sym, ap, ap₂, _∙_}
 use mathlib.Core.Bool.{true}
 use mathlib.Core.List.{List}
@@ -43,6 +56,7 @@ module _ (S : Setting) (xs : List Float) (ls ls′ : List ℤ) where
       ∙ getD-over-new (listed (length xs) f) ls j (pos 0) (omega (arith, length-listed (length xs) f))
       ∙ getD-listed (length xs) f j (pos 0) l
 
+  -- filling the levels leaves their buffer as long as it was
   pub levels-length : ls′ ≡ over (levelsOf S xs) ls → length xs ≤ length ls → length ls′ ≡ length ls
   unfolding levelsOf
   levels-length e h =
@@ -60,6 +74,7 @@ module _ (S : Setting) (xs : List Float) (ls ls′ : List ℤ) where
         within = λ j l. rw (level-at e j l) (level-bound S (getD xs j nan));
       }
 
+  -- the levels kept as numbers and the hard bits are those of a started decoder
   pub filled-started : (z₀ z x : List ℕ) → Filled S xs ls ls′ z₀ z → Biased (length xs) (largest (S .bits)) ls′ x → Started S xs ls ls′ z x
   unfolding startOf
   filled-started z₀ z x f b =
@@ -77,13 +92,16 @@ module _ (S : Setting) (xs : List Float) (ls ls′ : List ℤ) where
 
 -- ---- the levels of every state, from samples on
 
+-- the levels at the start lie from -L to L
 pub start-bound : (S : Setting) (xs : List Float) (j : ℕ) → natAbs (startOf S xs .R j) ≤ largest (S .bits)
 unfolding startOf
 start-bound S xs j = level-bound S (getD xs j nan)
 
+-- so do those after k rounds
 pub states-bound : (H : Matrix) (S : Setting) (xs : List Float) (k j : ℕ) → natAbs (stateAt H (largest (S .bits)) (startOf S xs) k .R j) ≤ largest (S .bits)
 states-bound H S xs k j = levels-bound H (largest (S .bits)) (startOf S xs) j (start-bound S xs j) k
 
+-- so do those at the end
 pub end-bound : (H : Matrix) (S : Setting) (xs : List Float) (j : ℕ) → natAbs (endFrom H S xs .last .R j) ≤ largest (S .bits)
 unfolding endFrom
 end-bound H S xs j =
@@ -213,9 +231,11 @@ module _ (H : Matrix) (S : Setting) (xs : List Float) (w : List ℕ) (ls : List 
 
 module _ {H : Matrix} {S : Setting} {xs : List Float} {w : List ℕ} {ls ls₁ : List ℤ} {z x : List ℕ} {L : ℕ}
     (lent : CallLent H S xs w ls) (start : Started S xs ls ls₁ z x) (e : L ≡ largest (S .bits)) where
+  -- the arrays of a call are ready for a round
   pub call-ready : Ready H L z x
   call-ready = rw e (start-ready H S xs w ls lent ls₁ z x start)
 
+  -- the hard bits are bits
   pub call-hard : (j : ℕ) → j < H .n → at z j < 2
   call-hard = start-bits H S xs w ls lent ls₁ z x start
 
@@ -223,12 +243,15 @@ module _ {H : Matrix} {S : Setting} {xs : List Float} {w : List ℕ} {ls ls₁ :
     by-largest : Ran H (largest (S .bits)) (S .limit) z x z′ x′ k f
     by-largest = rw e at ran
 
+    -- the bits where the decoder stops are bits
     pub call-bits : (j : ℕ) → j < H .n → at z′ j < 2
     call-bits = stop-bits H S xs w ls lent ls₁ z x start z′ x′ k f by-largest
 
+    -- the levels where it stops can be written back
     pub call-restorable : Restorable (H .n) L x′ ls₁
     call-restorable = rw e (stop-restorable H S xs w ls lent ls₁ z x start z′ x′ k f by-largest)
 
+    -- what is packed, stored and counted of them is what the call leaves
     pub call-decoded : (hard₀ : List ℕ) {hard w′ : List ℕ} {ls′ : List ℤ} {changed : ℕ} {said : Said} → hard ≡ over (pack (H .n) (at z)) hard₀
         → w′ ≡ over (pack (H .n) (at z′)) w
         → ls′ ≡ over (listed (H .n) (unbiased L x′)) ls₁

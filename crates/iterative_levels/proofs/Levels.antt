@@ -1,5 +1,13 @@
 -- Laws of levels kept as numbers: the next one is that of R + E cut to -L and L, and the bit is that of R.
--- Levels stay from -L to L. Assumes nothing.
+-- Levels stay from -L to L.
+--   biased-le                     == the number of a level is at most 2 * L
+--   biased-back                   == a level's number gives the level back
+--   back-biased                   == the number of the level made of a number is that number
+--   next-biased                   == the number of R + E cut to -L and L, where E is a - b
+--   next-zero, next-one           == the next number of a bit 0 and of a bit 1 is that of R + E cut to -L and L
+--   above-biased                  == the number lies above the middle exactly where the level is above 0
+--   above-bit, above-middle-bit   == either test gives a bit
+-- Assumes nothing.
 use mathlib.Core.Path.{_≡_, refl, sym, ap, _∙_}
 use mathlib.Core.Bool.{Bool, true, false, cond}
 use Prim.Native.Nat.{ℕ, zero, suc, min, _+_, _-_, _*_, _≤_, _<_}
@@ -19,6 +27,7 @@ biased-neg : (L t : ℕ) → biased L (negℤ (pos t)) ≡ L - t
 biased-neg L zero = omega arith
 biased-neg L (suc t) = refl
 
+-- the number of a level is at most 2 * L
 pub biased-le : (L : ℕ) (r : ℤ) → natAbs r ≤ L → biased L r ≤ 2 * L
 biased-le L (pos k) h = omega arith
 biased-le L (negsuc k) h = omega arith
@@ -54,6 +63,7 @@ next-biased L a b r h =
 
 -- ---- the two cases of the next level
 
+-- the next number of a bit 0 and of a bit 1 is that of R + E cut to -L and L
 pub next-zero : (gamma L v z : ℕ) (r : ℤ) → z ≡ 0 → natAbs r ≤ L → nextLevel gamma (2 * L) (biased L r) z v ≡ biased L (cut L (r +ℤ subℕ (2 * v) gamma))
 unfolding nextLevel
 next-zero gamma L v z r e h =
@@ -68,12 +78,14 @@ next-one gamma L v z r e h =
 
 -- ---- the bit
 
+-- the number lies above the middle exactly where the level is above 0
 pub above-biased : (L : ℕ) (r : ℤ) → aboveMiddle L (biased L r) ≡ aboveZero r
 unfolding aboveMiddle
 above-biased L (pos zero) = ap flag (le-ltb L (L + 0) (omega arith))
 above-biased L (pos (suc k)) = ap flag (lt-ltb L (L + suc k) (omega arith))
 above-biased L (negsuc k) = ap flag (le-ltb L (L - suc k) (omega arith))
 
+-- either test gives a bit
 pub above-bit : (r : ℤ) → aboveZero r < 2
 above-bit (pos zero) = omega arith
 above-bit (pos (suc k)) = omega arith

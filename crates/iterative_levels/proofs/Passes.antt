@@ -1,4 +1,9 @@
--- One cell more of a pass over the levels: the step laws of `update` and `bias`. Assumes nothing.
+-- One cell more of a pass over the levels: the step laws of `update` and `bias`.
+--   moved-none    == no level is moved yet
+--   moved-step    == one level more is moved
+--   biased-none   == no level is kept as a number yet
+--   biased-step   == one level more is kept as a number
+-- Assumes nothing.
 use mathlib.Core.Path.{_≡_, refl, sym, ap, ap₂, _∙_}
 use mathlib.Core.Logic.{inl, inr}
 use mathlib.Core.List.{List}
@@ -14,6 +19,7 @@ use Rattle.iterative_levels.specs.Levels.{biased, nextLevel, aboveMiddle
 less : (i j : ℕ) → i < j + 1 → (i ≡ j → ⊥) → i < j
 less i j h ne = omega arith
 
+-- no level is moved yet
 pub moved-none : (v : List ℕ) (gamma L ceiling : ℕ) (z x : List ℕ) → length z ≡ 1023 → length x ≡ 1023 → Moved v 0 gamma L ceiling z x z x
 moved-none v gamma L ceiling z x lz lx =
     record {
@@ -26,6 +32,7 @@ moved-none v gamma L ceiling z x lz lx =
     }
 
 module _ (v : List ℕ) (j gamma L ceiling : ℕ) (z₀ x₀ z x : List ℕ) (t : Moved v j gamma L ceiling z₀ x₀ z x) (room : j < 1023) where
+  -- one level more is moved
   pub moved-step : (y b : ℕ) → y ≡ nextLevel gamma ceiling (at x j) (at z j) (at v j) → b ≡ aboveMiddle L y
       → Moved v (j + 1) gamma L ceiling z₀ x₀ (set z j b) (set x j y)
   moved-step y b e f =
@@ -62,9 +69,11 @@ module _ (v : List ℕ) (j gamma L ceiling : ℕ) (z₀ x₀ z x : List ℕ) (t 
       other-level : (i : ℕ) → (i ≡ j → ⊥) → at (set x j y) i ≡ at x i
       other-level i ne = elim (stored x j y i (omega (arith, t .long-levels))) [ inl p ↦ absurd (ne (p .1)) | inr p ↦ p .0 ]
 
+-- no level is kept as a number yet
 pub biased-none : (L : ℕ) (R : List ℤ) (x : List ℕ) → length x ≡ 1023 → Biased 0 L R x
 biased-none L R x l = record { long = l; each = λ i h. absurd (omega arith) }
 
+-- one level more is kept as a number
 pub biased-step : (j L : ℕ) (R : List ℤ) (x : List ℕ) → Biased j L R x → j < 1023 → (y : ℕ) → y ≡ biased L (getD R j (pos 0)) → Biased (j + 1) L R (set x j y)
 biased-step j L R x t room y e =
     record {

@@ -1,4 +1,12 @@
--- A level as a signed byte and the number that keeps it: their sum and difference with the middle, in the machine's terms. Assumes nothing.
+-- A level as a signed byte and the number that keeps it: their sum and difference with the middle, in the machine's terms.
+--   wider             == what fits a byte fits two
+--   sum-fits          == the sum of a level and the middle fits two bytes
+--   sum-back          == that sum is the number that keeps the level
+--   difference-fits   == the difference of the number and the middle fits two bytes
+--   level-fits        == that difference fits a signed byte
+--   level-back        == that difference is the level
+--   level-byte        == a level from -L to L, with L at most 127, fits a signed byte
+-- Assumes nothing.
 use mathlib.Core.Path.{_≡_, refl, sym, ap, ap₂, _∙_, subst}
 use Prim.Native.Nat.{ℕ, zero, suc, _+_, _-_, _*_, _≤_, _<_}
 use native.Mathlib.Nat.{lt-of-lt-of-le}
@@ -34,10 +42,12 @@ module _ (r : ℤ) (L : ℕ) (few : L ≤ mostLevel) (h : natAbs r ≤ L) (f : S
   sum-is : toZ w16 (ofZ w16 (toZ w8 (ofZ w8 r))) +ℤ toZ w16 L ≡ pos (biased L r)
   sum-is = ap₂ _+ℤ_ back (small L (omega arith)) ∙ plus-middle r L h
 
+  -- the sum of a level and the middle fits two bytes
   pub sum-fits : SFits w16 (toZ w16 (ofZ w16 (toZ w8 (ofZ w8 r))) +ℤ toZ w16 L)
   sum-fits =
       subst (SFits w16) (sym sum-is) (record { sfits = lt-of-lt-of-le {m = 256} (omega (arith, biased-le L r h)) (lit≤ tt) })
 
+  -- that sum is the number that keeps the level
   pub sum-back : toZ w16 (ofZ w16 (toZ w16 (ofZ w16 (toZ w8 (ofZ w8 r))) +ℤ toZ w16 L)) ≡ pos (biased L r)
   sum-back = toZ-ofZ w16 _ sum-fits ∙ sum-is
 
@@ -58,20 +68,24 @@ module _ (x L : ℕ) (few : L ≤ mostLevel) (h : x ≤ 2 * L) where
   difference-is : toZ w16 x -ℤ toZ w16 L ≡ subℕ x L
   difference-is = ap₂ _-ℤ_ (small x (omega arith)) (small L (omega arith)) ∙ minus-middle x L
 
+  -- the difference of the number and the middle fits two bytes
   pub difference-fits : SFits w16 (toZ w16 x -ℤ toZ w16 L)
   difference-fits = subst (SFits w16) (sym difference-is) (wider (subℕ x L) (sub-small x L few h))
 
   difference-back : toZ w16 (ofZ w16 (toZ w16 x -ℤ toZ w16 L)) ≡ subℕ x L
   difference-back = toZ-ofZ w16 _ difference-fits ∙ difference-is
 
+  -- that difference fits a signed byte
   pub level-fits : SFits w8 (toZ w16 (ofZ w16 (toZ w16 x -ℤ toZ w16 L)))
   level-fits = subst (SFits w8) (sym difference-back) (sub-small x L few h)
 
+  -- that difference is the level
   pub level-back : toZ w8 (ofZ w8 (toZ w16 (ofZ w16 (toZ w16 x -ℤ toZ w16 L)))) ≡ subℕ x L
   level-back = toZ-ofZ w8 _ level-fits ∙ difference-back
 
 -- ---- a level within the range is a signed byte
 
+-- a level from -L to L, with L at most 127, fits a signed byte
 pub level-byte : (r : ℤ) (L : ℕ) → L ≤ mostLevel → natAbs r ≤ L → SFits w8 r
 level-byte (pos k) L few h = record { sfits = lt-of-lt-of-le {m = 128} (omega arith) (lit≤ tt) }
 level-byte (negsuc k) L few h = record { sfits = lt-of-lt-of-le {m = 128} (omega arith) (lit≤ tt) }

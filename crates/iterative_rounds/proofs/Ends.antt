@@ -1,4 +1,22 @@
 -- Laws of the list of iterative voting: where it ends, which state it ends with, and that it reads the places below n alone.
+--   ends                == the end after k rounds with a state
+--   end-stops           == where no check fails the list ends
+--   end-goes            == where one fails and rounds are left, a round is done
+--   end-limit           == where no round is left the list ends
+--   end-is              == the end of the list is as `EndsAt` says
+--   rounds-within       == the rounds are at most the limit
+--   end-state           == the state at the end is that after k rounds
+--   earlier-fails       == every earlier state has a failing check, so the list ends no later than it may
+--   fails-at-limit      == a check fails at the end only with k at the limit, so the list ends no earlier
+--   end-unique          == no other end is
+--   end-at              == the list ends after k rounds where a check fails before each and either none fails then or k is the limit
+--   round-bound         == a round leaves levels from -L to L
+--   levels-bound        == a level from -L to L stays there in every round
+--   round-alike         == states that agree below n agree after a round
+--   states-alike        == they agree after k rounds
+--   failing-alike       == they have as many failing checks
+--   ends-alike          == two starts that agree below n end alike
+--   failing-alike-end   == with as many failing checks
 -- Assumes nothing.
 use mathlib.Core.Path.{_≡_, refl, sym, ap, ap₂, _∙_}
 use Prim.Native.Nat.{ℕ, zero, suc, _+_, _≤_, _<_}
@@ -24,15 +42,18 @@ ends k s = record { k = k; last = s }
 module _ (H : Matrix) (L : ℕ) where
   -- ---- steps 2 and 3: the list stops where no check fails, and else goes on by a round
 
+  -- where no check fails the list ends
   pub end-stops : (k left : ℕ) (s : State) → failing H (s .z) ≡ 0 → endOf H L k left s ≡ ends k s
   unfolding endOf
   end-stops k zero s e = refl
   end-stops k (suc left) s e = rw (eq-eqb (failing H (s .z)) 0 e)
 
+  -- where one fails and rounds are left, a round is done
   pub end-goes : (k left : ℕ) (s : State) → 0 < failing H (s .z) → endOf H L k (suc left) s ≡ endOf H L (suc k) left (roundOf H L s)
   unfolding endOf
   end-goes k left s h = rw (ne-eqb (failing H (s .z)) 0 (λ e. omega arith))
 
+  -- where no round is left the list ends
   pub end-limit : (k : ℕ) (s : State) → endOf H L k 0 s ≡ ends k s
   unfolding endOf
   end-limit k s = refl
@@ -56,6 +77,7 @@ module _ (H : Matrix) (L : ℕ) where
 
   -- ---- what is promised of the end
 
+  -- the end of the list is as `EndsAt` says
   pub end-is : (limit : ℕ) (s : State) → EndsAt H L limit s (endOf H L 0 limit s)
   unfolding stateAt
   end-is limit s = rw zero-add at (from-round s limit 0 (λ i h. absurd (omega arith)))
@@ -82,6 +104,7 @@ module _ (H : Matrix) (L : ℕ) where
       let h : 0 < failing H (e .last .z) = rw (a .state-is) (b .earlier (e .k) l) in
       omega (arith, a .failed h, b .within)
 
+  -- no other end is
   pub end-unique : (limit : ℕ) (s : State) (e e′ : End) → EndsAt H L limit s e → EndsAt H L limit s e′ → e ≡ e′
   end-unique limit s e e′ a b =
       let q : e .k ≡ e′ .k = elim (ℕ-discrete (e .k) (e′ .k)) [
@@ -93,6 +116,7 @@ module _ (H : Matrix) (L : ℕ) where
       apart : (e .k ≡ e′ .k → ⊥) → ⊥
       apart ne = elim (decLt (e .k) (e′ .k)) [ yes l ↦ no-later limit s e e′ a b l | no g ↦ no-later limit s e′ e b a (omega arith) ]
 
+  -- the list ends after k rounds where a check fails before each and either none fails then or k is the limit
   pub end-at : (limit k : ℕ) (s : State) → k ≤ limit → ((t : ℕ) → t < k → 0 < failing H (stateAt H L s t .z))
       → (0 < failing H (stateAt H L s k .z) → k ≡ limit) → endOf H L 0 limit s ≡ ends k (stateAt H L s k)
   end-at limit k s l before stop =
@@ -101,10 +125,12 @@ module _ (H : Matrix) (L : ℕ) where
 
   -- ---- levels stay from -L to L
 
+  -- a round leaves levels from -L to L
   pub round-bound : (s : State) (j : ℕ) → natAbs (roundOf H L s .R j) ≤ L
   unfolding roundOf levelAfter
   round-bound s j = cut-bound L (s .R j +ℤ extrinsic H (s .z) j)
 
+  -- a level from -L to L stays there in every round
   pub levels-bound : (s : State) (j : ℕ) → natAbs (s .R j) ≤ L → (k : ℕ) → natAbs (stateAt H L s k .R j) ≤ L
   unfolding stateAt
   levels-bound s j h zero = h
@@ -117,16 +143,19 @@ module _ (H : Matrix) (L : ℕ) where
     unfolding levelAfter
     level-alike s t a j l = ap₂ (λ (x y : ℤ). cut L (x +ℤ y)) (a .levels j l) (extrinsic-cong H r (s .z) (t .z) (a .word) j)
 
+    -- states that agree below n agree after a round
     pub round-alike : (s t : State) → Alike (H .n) s t → Alike (H .n) (roundOf H L s) (roundOf H L t)
     unfolding roundOf
     round-alike s t a =
         record { word = λ j l. ap aboveZero (level-alike s t a j l); levels = λ j l. level-alike s t a j l }
 
+    -- they agree after k rounds
     pub states-alike : (s t : State) → Alike (H .n) s t → (k : ℕ) → Alike (H .n) (stateAt H L s k) (stateAt H L t k)
     unfolding stateAt
     states-alike s t a zero = a
     states-alike s t a (suc k) = round-alike (stateAt H L s k) (stateAt H L t k) (states-alike s t a k)
 
+    -- they have as many failing checks
     pub failing-alike : (s t : State) → Alike (H .n) s t → failing H (s .z) ≡ failing H (t .z)
     failing-alike s t a = failing-cong H r (s .z) (t .z) (a .word)
 

@@ -1,4 +1,9 @@
 -- Laws of the extrinsic sum E: it is the votes against the weight, it lies from -gamma to gamma, and it reads the bits below n alone.
+--   extrinsic-zero     == of a bit 0, E is twice the votes less the weight
+--   extrinsic-one      == of a bit 1, E is the weight less twice the votes
+--   extrinsic-weight   == the magnitude of E is at most the column's weight
+--   extrinsic-bound    == with an accepted matrix it is at most gamma
+--   extrinsic-cong     == words that agree below n have the same E
 -- Assumes nothing.
 use mathlib.Core.Path.{_≡_, refl, ap, _∙_}
 use Prim.Native.Nat.{ℕ, zero, suc, _+_, _*_, _%_, _≤_, _<_}
@@ -92,16 +97,19 @@ abs-part : (h p : ℕ) → natAbs (pos h *ℤ sign p) ≤ h
 abs-part h zero = omega (arith, abs-neg (h * 1))
 abs-part h (suc p) = omega arith
 
+-- the magnitude of E is at most the column's weight
 pub extrinsic-weight : (H : Matrix) (z : ℕ → ℕ) (j : ℕ) → natAbs (extrinsic H z j) ≤ weight H j
 unfolding extrinsic weight
 extrinsic-weight H z j =
     sumℤ-bound (H .m) (λ i. has H i j) (λ i. pos (has H i j) *ℤ sign (others H z i j % 2)) (λ i l. abs-part (has H i j) (others H z i j % 2))
 
+-- with an accepted matrix it is at most gamma
 pub extrinsic-bound : (H : Matrix) → Accepted H → (z : ℕ → ℕ) (j : ℕ) → j < H .n → natAbs (extrinsic H z j) ≤ H .gamma
 extrinsic-bound H a z j l = omega (arith, extrinsic-weight H z j, weight-equal H a (a .sizes .product) j l)
 
 -- ---- what E reads
 
+-- words that agree below n have the same E
 pub extrinsic-cong : (H : Matrix) → Rows H → (z c : ℕ → ℕ) → ((j : ℕ) → j < H .n → z j ≡ c j) → (j : ℕ) → extrinsic H z j ≡ extrinsic H c j
 unfolding extrinsic others
 extrinsic-cong H r z c e j =

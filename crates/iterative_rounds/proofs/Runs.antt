@@ -1,4 +1,15 @@
--- The loop of `run`: what holds after k rounds, how a round carries it on, and what it says where the loop stops. Assumes nothing.
+-- The loop of `run`: what holds after k rounds, how a round carries it on, and what it says where the loop stops.
+--   ready-holds    == arrays that are ready hold the state that they stand for
+--   holds-alike    == arrays that hold a state stand for one like it
+--   alike-holds    == arrays that hold a state hold every state like it
+--   holds-ready    == arrays that hold a state are ready for a round
+--   moved-word     == the bits after a pass are a word
+--   Going          == what holds after k rounds of the loop
+--   going-starts   == it holds before the first round
+--   going-ready    == the arrays are then ready for a round
+--   going-ends     == where the loop stops, the arrays are as `run` leaves them
+--   going-step     == where it does not, this holds after one round more
+-- Assumes nothing.
 use mathlib.Core.Path.{_≡_, refl, sym, ap, _∙_}
 use mathlib.Core.List.{List}
 use Prim.Native.Nat.{ℕ, _+_, _≤_, _<_}
@@ -22,6 +33,7 @@ use Rattle.iterative_rounds.proofs.States.{holds-word, round-holds}
 
 -- ---- the state that arrays stand for
 
+-- arrays that are ready hold the state that they stand for
 pub ready-holds : (H : Matrix) (L : ℕ) (z x : List ℕ) → Ready H L z x → Holds (H .n) L z x (stateOf L z x)
 unfolding stateOf unbiased Word
 ready-holds H L z x r =
@@ -40,6 +52,7 @@ unfolding stateOf unbiased
 holds-alike n L z x s h =
     record { word = h .word; levels = λ j l. ap (λ (y : ℕ). subℕ y L) (h .levels j l) ∙ biased-back L (s .R j) (h .within j l) }
 
+-- arrays that hold a state hold every state like it
 pub alike-holds : (n L : ℕ) (z x : List ℕ) (s t : State) → Holds n L z x s → Alike n s t → Holds n L z x t
 alike-holds n L z x s t h a =
     record {
@@ -70,6 +83,7 @@ moved-word H v gamma L ceiling z x z′ x′ m j l = omega (arith, m .bits j l, 
 
 -- ---- the invariant
 
+-- what holds after k rounds of the loop
 pub record Going (H : Matrix) (L limit : ℕ) (s : State) (z x p v : List ℕ) (f k : ℕ) : Type 0 where
   pub within : k ≤ limit
   pub holds : Holds (H .n) L z x (stateAt H L s k)
@@ -77,6 +91,7 @@ pub record Going (H : Matrix) (L limit : ℕ) (s : State) (z x p v : List ℕ) (
   pub earlier : (t : ℕ) → t < k → 0 < failing H (stateAt H L s t .z)
 
 module _ (H : Matrix) (L limit : ℕ) (z₀ x₀ : List ℕ) (r : Ready H L z₀ x₀) where
+  -- it holds before the first round
   pub going-starts : (p v : List ℕ) (f : ℕ) → Retallied H (at z₀) p v f → Going H L limit (stateOf L z₀ x₀) z₀ x₀ p v f 0
   unfolding stateAt
   going-starts p v f t =
@@ -86,6 +101,7 @@ module _ (H : Matrix) (L limit : ℕ) (z₀ x₀ : List ℕ) (r : Ready H L z₀
     now-fails : f ≡ failing H (stateAt H L (stateOf L z₀ x₀) k .z)
     now-fails = g .tallied .tallied .count ∙ failing-cong H (r .matrix .rows) (at z) (stateAt H L (stateOf L z₀ x₀) k .z) (g .holds .word)
 
+    -- the arrays are then ready for a round
     pub going-ready : Ready H L z x
     going-ready = holds-ready H L z x (stateAt H L (stateOf L z₀ x₀) k) z₀ x₀ r (g .holds)
 

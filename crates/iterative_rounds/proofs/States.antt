@@ -1,4 +1,8 @@
--- Arrays that hold a state, and what one round makes of them. Assumes nothing.
+-- Arrays that hold a state, and what one round makes of them.
+--   holds-word      == the bits of a state that arrays hold are a word
+--   next-level-is   == the level after a round, by the votes
+--   round-holds     == arrays that hold a state, moved by its votes, hold the state after a round
+-- Assumes nothing.
 use mathlib.Core.Path.{_≡_, sym, ap, ap₂, _∙_}
 use mathlib.Core.List.{List}
 use Prim.Native.Nat.{ℕ, _*_, _≤_, _<_}

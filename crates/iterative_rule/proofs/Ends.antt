@@ -1,8 +1,8 @@
 -- Where iterative voting ends that starts near a codeword c: with c, within the rounds of specs/Paper/Claims.antt.
---   rounds-far     == as many strides are more than L
---   rounds-most    == the rounds are at most L / 2 + 1
---   rounds-one     == with L = 1 they are 0 or 1
---   end-right      == the end: with c, within the rounds
+--   rounds-far    == as many strides are more than L
+--   rounds-most   == the rounds are at most L / 2 + 1
+--   rounds-one    == with L = 1 they are 0 or 1
+--   end-right     == the end: with c, within the rounds
 -- As in proofs/Approach.antt over each column's own weight; here t is the number of wrong bits at the start. Assumes nothing.
 use mathlib.Core.Path.{_≡_, refl, sym, ap, _∙_}
 use mathlib.Core.Bool.{cond}
@@ -131,5 +131,6 @@ module _ (H : Matrix) (r : Rows H) (g : ℕ) (heavy : (j : ℕ) → j < H .n →
               absurd (omega arith)
         ]
 
+    -- the end: with c, within the rounds
     pub end-right : EndsRight H c t (roundsFor L g t) end
     end-right = record { begun = end-begun; soon = end-soon; clean = end-clean; right = end-word }

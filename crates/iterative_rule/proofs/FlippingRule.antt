@@ -1,7 +1,7 @@
 -- The flipping rule for iterative voting, on samples and bytes: the claims of specs/Paper/Claims.antt, for every call that is not refused.
---   iterative-rule    == every codeword changed within the half is recovered where the round limit leaves the rounds for it
---   ample-limit       == a limit of L / 2 + 1 leaves them
---   one-round         == with b = 2 a limit of 1 does, and the rounds are those of one-step voting
+--   iterative-rule   == every codeword changed within the half is recovered where the round limit leaves the rounds for it
+--   ample-limit      == a limit of L / 2 + 1 leaves them
+--   one-round        == with b = 2 a limit of 1 does, and the rounds are those of one-step voting
 -- Assumes nothing.
 use mathlib.Core.Path.{_≡_, refl, ap, _∙_}
 use mathlib.Core.Logic.{inl, inr}

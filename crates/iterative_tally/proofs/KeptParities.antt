@@ -1,4 +1,14 @@
--- What is turned over makes the parities of one word those of another, and they give its votes. Assumes nothing.
+-- What is turned over makes the parities of one word those of another, and they give its votes.
+--   places-cong       == the places that one test lists are listed by a test that agrees with it below m
+--   columns           == the index of an accepted matrix has a part for each column
+--   turned-parities   == the parities of one word turned over where the other differs are those of the other
+--   failing-places    == the rows that are listed by their parities are the failing checks
+--   rows-none         == no row has its parity yet
+--   rows-step         == one row more has its parity
+--   rows-parities     == the parities of all rows are the checks of the matrix
+--   zero-parities     == the parities of a word of zeros are zeros
+--   zero-word         == a word of zeros is a word
+-- Assumes nothing.
 use mathlib.Core.Path.{_≡_, sym, ap, _∙_}
 use mathlib.Core.List.{List}
 use mathlib.Core.Logic.{inl, inr}
@@ -72,6 +82,7 @@ failing-places H z p k l t = places-cong (at p) (fails H z) (H .m) l t (k .each)
 
 -- ---- all rows anew
 
+-- no row has its parity yet
 pub rows-none : (l : List ℕ) (rho : ℕ) (z : ℕ → ℕ) (p : List ℕ) → Bits p → RowParities l 0 rho z p
 rows-none l rho z p b = record { bits = b; each = λ i h. absurd (omega arith) }
 

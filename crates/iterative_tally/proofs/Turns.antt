@@ -1,4 +1,12 @@
--- Laws of parities that are turned over: none, one row more, one column more. Assumes nothing.
+-- Laws of parities that are turned over: none, one row more, one column more.
+--   turned-bits   == turned parities are 0 or 1
+--   checks-none   == no row is turned over yet
+--   checks-step   == one row more is turned over
+--   bit-stays     == a bit that stays turns nothing
+--   bit-turns     == a bit that does not stay turns its column's rows
+--   flips-none    == no column is looked at yet
+--   flips-step    == one column more is looked at
+-- Assumes nothing.
 use mathlib.Core.Path.{_≡_, sym, ap, _∙_}
 use mathlib.Core.List.{List}
 use mathlib.Core.Logic.{inl, inr}
@@ -21,6 +29,7 @@ turned-bits f p p′ t = record { long = t .long; bit = λ i. omega (arith, t .e
 module _ (p : List ℕ) (b : Bits p) where
   -- ---- the rows of one column
 
+  -- no row is turned over yet
   pub checks-none : (x : List ℕ) (from : ℕ) → ParitiesTurned (among x from 0) p p
   unfolding among sumBelow
   checks-none x from = record { long = b .long; each = λ i. omega (arith, b .bit i) }
@@ -57,6 +66,7 @@ module _ (p : List ℕ) (b : Bits p) where
 
   -- ---- all columns
 
+  -- no column is looked at yet
   pub flips-none : (x : List ℕ) (gamma : ℕ) (a c : ℕ → ℕ) → ParitiesTurned (flips x gamma a c 0) p p
   unfolding flips sumBelow
   flips-none x gamma a c = record { long = b .long; each = λ i. omega (arith, b .bit i) }

@@ -1,4 +1,8 @@
--- Laws of the flips: a bit by its vote, and one bit more. Assumes nothing.
+-- Laws of the flips: a bit by its vote, and one bit more.
+--   flip-bit     == of a bit, `^` with the test turns it over where the test passes
+--   voted-none   == no bit is voted on yet
+--   voted-step   == one bit more is voted on
+-- Assumes nothing.
 use mathlib.Core.Path.{_≡_, refl, ap, _∙_}
 use mathlib.Core.Bool.{Bool, true, false}
 use mathlib.Core.List.{List}

@@ -1,11 +1,11 @@
 -- One-step voting restores a codeword of which few bits were changed, and codewords lie far apart: on words as functions.
---   votes-weight, votes-small, votes-le, votes-clean    == how many votes a bit can have
+--   votes-weight, votes-small, votes-le, votes-clean                       == how many votes a bit can have
 --   flipped-kept, flipped-turned, flipped-clean, flipped-bit, flipped-by   == the word after the vote
---   stepWord-flipped, stepWord-bit                      == the word that one-step voting writes
---   failing-unchanged, failing-changed                  == whether a check fails, by whether a bit was changed
---   flipped-restores, flipped-passes, flipped-distance  == the vote on a codeword with few changes
---   stepWord-restores, stepRounds-changed, oneStep-restores   == what one-step voting then writes and reports
---   far, far-gamma                                      == how far two codewords lie apart
+--   stepWord-flipped, stepWord-bit                                         == the word that one-step voting writes
+--   failing-unchanged, failing-changed                                     == whether a check fails, by whether a bit was changed
+--   flipped-restores, flipped-passes, flipped-distance                     == the vote on a codeword with few changes
+--   stepWord-restores, stepRounds-changed, oneStep-restores                == what one-step voting then writes and reports
+--   far, far-gamma                                                         == how far two codewords lie apart
 -- Assumes nothing.
 use mathlib.Core.Path.{_≡_, refl, sym, _∙_, fun-ext}
 use mathlib.Core.Logic.{inl, inr}

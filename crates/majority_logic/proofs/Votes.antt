@@ -1,6 +1,9 @@
 -- How many failing checks a column has where the word is a codeword with some bits changed, over the column's own weight.
 -- A change in another column lies in at most one check of this column, as no two checks share two columns; a change of the column
--- itself lies in all of its checks. Assumes nothing.
+-- itself lies in all of its checks.
+--   votes-kept      == a column that is not changed has at most as many failing checks as there are changes
+--   votes-changed   == one that is changed has more than its weight less that number
+-- Assumes nothing.
 use mathlib.Core.Path.{_≡_, refl, sym, ap, ap₂, _∙_}
 use mathlib.Core.Logic.{_⊎_, inl, inr}
 use Prim.Native.Nat.{ℕ, zero, suc, _+_, _*_, _%_, _≤_, _<_}

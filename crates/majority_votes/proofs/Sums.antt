@@ -1,4 +1,15 @@
--- Laws of votes added row by row: one column more, one row more, and what all failing rows add. Assumes nothing.
+-- Laws of votes added row by row: one column more, one row more, and what all failing rows add.
+--   among-none      == no column of a row has its vote yet
+--   among-next      == a column that is still to be voted for has room for its vote
+--   among-step      == one column more has its vote
+--   rows-none       == no row has added its votes yet
+--   rows-next       == the next row has room for its votes
+--   rows-step       == one row more has added its votes
+--   failing-parts   == the failing rows are rows of the list
+--   failing-votes   == what the failing rows add is the votes
+--   failing-room    == what they add fits a cleared array
+--   tallied         == a cleared array to which they are added is the tally of the votes
+-- Assumes nothing.
 use mathlib.Core.Path.{_≡_, sym, _∙_}
 use mathlib.Core.List.{List}
 use mathlib.Core.Logic.{inl, inr}
@@ -52,6 +63,7 @@ among-step l from k old new h t =
 
 -- ---- the listed rows
 
+-- no row has added its votes yet
 pub rows-none : (l : List ℕ) (rho : ℕ) (rows v : List ℕ) → length v ≡ 1023 → More (ofRows l rho rows 0) v v
 unfolding ofRows sumBelow
 rows-none l rho rows v e = record { long = e; each = λ j. omega arith }
@@ -99,6 +111,7 @@ module _ (H : Matrix) (a : Accepted H) (z : ℕ → ℕ) (rows : List ℕ) (t : 
         fits = λ j. omega (arith, zeros 1023 j, failing-votes j, votes-small H a z j);
       }
 
+  -- a cleared array to which they are added is the tally of the votes
   pub tallied : (v : List ℕ) → More (ofRows (H .list) (H .rho) rows t) (replicate 1023 0) v → Tallied H z v t
   unfolding failing
   tallied v m =

@@ -1,9 +1,13 @@
 -- The matrix check in its plain reading: `checkOf H` is the verdict that `Reads H` gives the matrix H, and no other verdict is.
---   sizes-say, sizes-fit                    == what the test of the sizes says, both ways
---   entries, weights, overlaps              == the tests of refusals 3, 4 and 5 decide their statements
---   clear-below, clear-ascending            == a list without a bad entry is rows of ascending column numbers below n
---   reads, reads-only                       == the verdict of a matrix has its reading, and is the only one that has
---   accepted-is, is-accepted                == what an accepted matrix is, both ways
+--   sizes-say, sizes-fit           == what the test of the sizes says, both ways
+--   entry-says, entry-clear        == the test of refusal 3: what it says where it passes, and where it fails
+--   weight-says, weight-clear      == the test of refusal 4: what it says where it passes, and where it fails
+--   overlap-says, overlap-clear    == the test of refusal 5: what it says where it passes, and where it fails
+--   entries, weights, overlaps     == the tests of refusals 3, 4 and 5 decide their statements
+--   clear-below, clear-ascending   == a list without a bad entry is rows of ascending column numbers below n
+--   accepts                        == a matrix to which no refusal applies is accepted
+--   reads, reads-only              == the verdict of a matrix has its reading, and is the only one that has
+--   accepted-is, is-accepted       == what an accepted matrix is, both ways
 -- Assumes nothing.
 use mathlib.Core.Path.{_≡_, sym, ap, subst, _∙_}
 use mathlib.Core.Bool.{Bool, true, false, _&&_}
@@ -46,6 +50,7 @@ module _ {t : ℕ → Bool} {P : ℕ → Type 0} (d : Decides t P) where
   passes k b v h = rw (first-none t b (λ x l. test-fails d x (h x l)), le-ltb b b (omega arith))
 
 module _ (H : Matrix) where
+  -- what the test of the sizes says, both ways
   pub sizes-say : sizesFit H ≡ true → Sizes H
   unfolding sizesFit
   sizes-say e =
@@ -116,6 +121,7 @@ module _ (H : Matrix) where
       let both = and-both _ _ (lt-ltb i (o .0) (o .1)) (le-leb 2 (common H i (o .0)) (o .3)) in
       never (sym (any-at (λ i′. ltb i i′ && leb 2 (common H i i′)) (H .m) (o .0) (o .2) both) ∙ e)
 
+  -- the tests of refusals 3, 4 and 5 decide their statements
   pub entries : Decides (badEntry H) (BadEntry H)
   entries = record { says = entry-says; clear = entry-clear }
 
@@ -160,6 +166,7 @@ module _ (H : Matrix) where
 
   -- a list without a bad entry is rows of ascending column numbers below n
   module _ (whole : length (H .list) ≡ H .m * H .rho) (clear : Never (BadEntry H) (length (H .list))) where
+    -- a list without a bad entry is rows of ascending column numbers below n
     pub clear-below : (i k : ℕ) → i < H .m → k < H .rho → entry H i k < H .n
     unfolding entry
     clear-below i k l h =
@@ -225,6 +232,7 @@ module _ (H : Matrix) where
         weights = λ j l. elim (ℕ-discrete (weight H j) (H .gamma)) [ yes e ↦ e | no f ↦ absurd (even j l f) ];
       }
 
+-- the verdict of a matrix is the only one that has its reading
 pub reads-only : (H : Matrix) (v : Verdict) → Reads H v → v ≡ checkOf H
 reads-only H _ (sizes-out h) = sym (says-sizes H h)
 reads-only H _ (length-wrong s h) = sym (says-length H s h)
@@ -258,6 +266,7 @@ decides H =
     ])
     (λ o. (refused 1 0, sizes-out (λ s. never (sym (sizes-fit H s) ∙ o))))
 
+-- the verdict of a matrix has its reading
 pub reads : (H : Matrix) → Reads H (checkOf H)
 reads H = subst (Reads H) (reads-only H (decides H .0) (decides H .1)) (decides H .1)
 
@@ -270,6 +279,7 @@ only-fine (weight-bad s l c f) e = absurd (not-accepted e)
 only-fine (rows-overlap s l c w f) e = absurd (not-accepted e)
 only-fine (fine a) e = a
 
+-- what an accepted matrix is, both ways
 pub accepted-is : (H : Matrix) → checkOf H ≡ accepted → Accepted H
 accepted-is H e = only-fine (reads H) e
 

@@ -1,4 +1,20 @@
--- Laws of rows and columns. Assumes nothing.
+-- Laws of rows and columns.
+--   weight-flat      == a column's weight counts it in the list
+--   common-sym       == two rows share the same columns, whichever is named first
+--   clean-at         == no check of a codeword fails
+--   fails-bit        == a check fails or it does not
+--   failing-le       == no more checks fail than there are
+--   few-entries      == there are no more entries than the largest sizes have
+--   stands           == the entries of a row stand in the list
+--   in-list          == entry k of row i stands in the list
+--   ascends          == a later entry of a row has the larger column number
+--   has-le           == a row has a column once or not at all
+--   row-sum          == a sum over the entries of a row, as a sum over the columns
+--   fails-cong       == a check reads the bits below n alone
+--   failing-cong     == so does the count of failing checks
+--   has-outside      == no row has a column that the matrix does not have
+--   weight-outside   == such a column has weight 0
+-- Assumes nothing.
 use mathlib.Core.Path.{_≡_, sym, ap, _∙_}
 use Prim.Native.Nat.{ℕ, _+_, _*_, _%_, _≤_, _<_}
 use native.Mathlib.Nat.{mul-le-mul}
@@ -47,9 +63,11 @@ pub stands : (H : Matrix) → length (H .list) ≡ H .m * H .rho → (i k : ℕ)
 stands H whole i k l h = omega (arith, whole, digits-lt {q = i} {m = H .m} {r = k} {c = H .rho} l h)
 
 module _ (H : Matrix) (r : Rows H) where
+  -- entry k of row i stands in the list
   pub in-list : (i k : ℕ) → i < H .m → k < H .rho → i * H .rho + k < length (H .list)
   in-list = stands H (r .whole)
 
+  -- a later entry of a row has the larger column number
   pub ascends : (i k k′ : ℕ) → i < H .m → k < k′ → k′ < H .rho → entry H i k < entry H i k′
   ascends i k k′ l lt h = ascending-lt (entry H i) (H .rho) (λ x. r .ascending i x l) k k′ lt h
 
@@ -71,6 +89,7 @@ module _ (H : Matrix) (r : Rows H) where
   unfolding fails
   fails-cong z c e i h = ap (λ (x : ℕ). x % 2) (sum-cong (H .rho) (λ k l. e (entry H i k) (r .below i k h l)))
 
+  -- so does the count of failing checks
   pub failing-cong : (z c : ℕ → ℕ) → ((j : ℕ) → j < H .n → z j ≡ c j) → failing H z ≡ failing H c
   unfolding failing
   failing-cong z c e = sum-cong (H .m) (λ i h. fails-cong z c e i h)

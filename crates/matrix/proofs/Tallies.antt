@@ -1,4 +1,9 @@
--- Laws of tallies: an array that counts, for each column, how often it came. Assumes nothing.
+-- Laws of tallies: an array that counts, for each column, how often it came.
+--   tally-none     == a cleared array has counted nothing
+--   tally-more     == one number more is counted
+--   tally-le       == no count is more than the numbers counted
+--   tally-common   == the marks of a row at the columns of another add up to what they share
+-- Assumes nothing.
 use mathlib.Core.Path.{_≡_, sym, ap, subst, _∙_}
 use mathlib.Core.List.{List}
 use Prim.Native.Nat.{ℕ, _+_, _≤_, _<_}
@@ -15,6 +20,7 @@ use Rattle.matrix.specs.Tallies.{Tally, markAt}
 use Rattle.matrix.proofs.Rows.{common-sym}
 
 module _ (f : ℕ → ℕ) where
+  -- a cleared array has counted nothing
   pub tally-none : Tally f 0 (replicate 1023 0)
   unfolding sumBelow
   tally-none = record { long = length-replicate {A = ℕ} 1023 0; each = λ j l. getD-replicate 1023 j 0 0 l }
@@ -38,6 +44,7 @@ module _ (f : ℕ → ℕ) where
             ]);
       }
 
+  -- one number more is counted
   pub tally-more : (k x : ℕ) (v v′ : List ℕ) → Tally f k v → x ≡ f k → x < 1023 → v′ ≡ set v x (getD v x 0 + 1) → Tally f (k + 1) v′
   tally-more k x v v′ t e h s =
       subst (Tally f (k + 1)) (sym (s ∙ ap (λ (y : ℕ). set v y (getD v y 0 + 1)) e)) (counted k v t (omega arith))

@@ -1,7 +1,7 @@
 -- Laws of the columns' weights in an accepted matrix: all that other crates know of them.
---   weight-least    == no column of the matrix has fewer than gamma ones
---   weight-small    == no column has more than 32, also none that the matrix does not have
---   weight-equal    == every column of the matrix has gamma ones, as its sizes fit each other
+--   weight-least   == no column of the matrix has fewer than gamma ones
+--   weight-small   == no column has more than 32, also none that the matrix does not have
+--   weight-equal   == every column of the matrix has gamma ones, as its sizes fit each other
 -- Assumes nothing.
 use mathlib.Core.Path.{_≡_}
 use Prim.Native.Nat.{ℕ, _*_, _≤_, _<_}

@@ -1,4 +1,14 @@
--- Laws of an index that is being filled: nothing yet, one entry more, one row more, and all rows. Assumes nothing.
+-- Laws of an index that is being filled: nothing yet, one entry more, one row more, and all rows.
+--   Spot          == the next place of the list, its column number, and the place that is free at that column
+--   filled-none   == nothing is placed yet
+--   free-room     == the next entry's column has a free place
+--   free-index    == that place lies in the index
+--   filled-step   == one entry of the row more is placed
+--   spot-of       == the next entry has its spot
+--   filled-next   == storing at its spot places one entry more
+--   filled-row    == a row with all of its entries placed is done
+--   filled-all    == with all rows done it is the index of the matrix
+-- Assumes nothing.
 use mathlib.Core.Path.{_≡_, refl, sym, ap, ap₂, _∙_}
 use mathlib.Core.List.{List}
 use mathlib.Core.Logic.{inl, inr}
@@ -104,9 +114,11 @@ module _ (H : Matrix) (a : Accepted H) where
       few : (j : ℕ) → at counts j ≤ H .gamma
       few j = omega (arith, f .count j, count-most (omega arith) j)
 
+      -- the next entry's column has a free place
       pub free-room : free < H .gamma
       free-room = omega (arith, f .count column, count-room h)
 
+      -- that place lies in the index
       pub free-index : column * H .gamma + free < 32736
       free-index = room-index h free free-room
 
@@ -183,6 +195,7 @@ module _ (H : Matrix) (a : Accepted H) where
 
   -- ---- where the next entry of row i goes, by the list alone
   module _ (i k : ℕ) (counts x : List ℕ) (row : i < H .m) (h : k < H .rho) (f : IndexFilled H i k counts x) where
+    -- the next entry has its spot
     pub spot-of : Spot H i k counts
     unfolding entry
     spot-of =
@@ -194,6 +207,7 @@ module _ (H : Matrix) (a : Accepted H) where
           spot = free-index i k row counts x f h;
         }
 
+    -- storing at its spot places one entry more
     pub filled-next : IndexFilled H i (k + 1) (set counts (at (H .list) (i * H .rho + k)) (at counts (at (H .list) (i * H .rho + k)) + 1))
         (set x (at (H .list) (i * H .rho + k) * H .gamma + at counts (at (H .list) (i * H .rho + k))) i)
     unfolding entry

@@ -1,4 +1,17 @@
--- Laws of rows that are met: words one after the other, rows that are noted, and that a row met once shares at most one column. Assumes nothing.
+-- Laws of rows that are met: words one after the other, rows that are noted, and that a row met once shares at most one column.
+--   Gone          == the words f 0 .. f (k - 1): met has their bits, and none twice only where no two of them have one in common
+--   gone-none     == no word is looked at yet
+--   gone-more     == one word more is looked at
+--   wordAt        == word v of the k-th column of row i
+--   met-once      == where no bit is met twice in the four words of row i's columns, no row is met at two of these columns
+--   RowIn         == row i has its bits in w
+--   RowsIn        == the rows of the part below i have theirs
+--   ClearTo       == no row of the part has two columns in common with a later row below i
+--   clear-more    == where no row is met at two columns of row i, no row of the part shares two columns with a later one up to i
+--   rows-more     == with row i noted the rows of the part up to i have their bits
+--   part-clear    == where this holds up to the last row the part is clear
+--   parts-clear   == where all parts are clear no two rows share two columns
+-- Assumes nothing.
 use mathlib.Core.Path.{_≡_, refl, ap₂, subst, _∙_}
 use mathlib.Core.List.{List}
 use Prim.Native.Nat.{ℕ, zero, suc, _+_, _*_, _/_, _%_, _≤_, _<_}
@@ -26,9 +39,11 @@ pub record Gone (f : ℕ → ℕ) (k : ℕ) (met : Met) : Type 0 where
   pub apart : met .twice ≡ 0 → (q q′ : ℕ) → q < q′ → q′ < k → (b : ℕ) → digit (f q) b ≡ 1 → digit (f q′) b ≡ 1 → ⊥
 
 module _ (f : ℕ → ℕ) where
+  -- no word is looked at yet
   pub gone-none : Gone f 0 (record { once = 0; twice = 0 })
   gone-none = record { all = λ q l. absurd (omega arith); apart = λ e q q′ l h. absurd (omega arith) }
 
+  -- one word more is looked at
   pub gone-more : {k x : ℕ} {met met′ : Met} → Gone f k met → x ≡ f k → Meets met x met′ → Gone f (k + 1) met′
   gone-more {k} {x} {met} {met′} g e m =
       record {
@@ -63,6 +78,7 @@ abbrev pub wordAt : Matrix → ℕ → List ℕ → ℕ → ℕ → ℕ
 wordAt H i w v k = getD w (entry H i k * 4 + v) 0
 
 module _ (H : Matrix) (i : ℕ) (w : List ℕ) where
+  -- where no bit is met twice in the four words of row i's columns, no row is met at two of these columns
   pub met-once : {k : ℕ} {a b c d : Met} → H .rho ≤ k → Gone (wordAt H i w 0) k a → Gone (wordAt H i w 1) k b → Gone (wordAt H i w 2) k c
       → Gone (wordAt H i w 3) k d → bitOr (bitOr (bitOr (a .twice) (b .twice)) (c .twice)) (d .twice) ≡ 0 → MetOnce H i w
   unfolding MetOnce
@@ -112,14 +128,17 @@ module _ (H : Matrix) where
         below-more (λ (x′ : ℕ). (x : ℕ) → x < x′ → x / 256 ≡ part → common H x x′ ≤ 1) i clear
         (λ x lt e. shares-one w x i (omega arith) (rows x lt e) once)
 
+  -- with row i noted the rows of the part up to i have their bits
   pub rows-more : (part i : ℕ) (w w′ : List ℕ) → Noted H part i w w′ → RowsIn part i w → RowsIn part (i + 1) w′
   rows-more part i w w′ n rows =
       below-more (λ (x : ℕ). x / 256 ≡ part → RowIn w′ x) i (λ x l e k h. n .kept (bitFor (entry H x k) x) (rows x l e k h)) (n .here)
 
+  -- where this holds up to the last row the part is clear
   pub part-clear : (part : ℕ) → ClearTo part (H .m) → PartClear H part
   unfolding PartClear
   part-clear part clear i e o = omega (arith, clear (o .0) (o .2) i (o .1) e, o .3)
 
+  -- where all parts are clear no two rows share two columns
   pub parts-clear : (part : ℕ) → H .m ≤ part * 256 → ((p : ℕ) → p < part → PartClear H p) → Never (Overlap H) (H .m)
   unfolding PartClear
   parts-clear part le clear i l o = clear (i / 256) (omega arith) i refl o

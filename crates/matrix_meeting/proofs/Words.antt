@@ -1,4 +1,10 @@
--- Laws of the bits of words: binary digits of `&` and `|`, and a bit that is set. Assumes nothing.
+-- Laws of the bits of words: binary digits of `&` and `|`, and a bit that is set.
+--   or-right, or-left   == a digit set in either part is set in `|`
+--   and-none            == numbers of which `&` is 0 have no digit in common
+--   or-none             == numbers of which `|` is 0 are 0
+--   grown               == storing `|` with a number that has the bit sets the bit
+--   shifted             == 1 shifted to a place below 64 has its digit there
+-- Assumes nothing.
 use mathlib.Core.Path.{_≡_, sym, ap, ap₂, _∙_}
 use mathlib.Core.List.{List}
 use Prim.Native.Nat.{ℕ, _*_, _/_, _%_, _^_, _<_}
@@ -28,6 +34,7 @@ and-none a b k e p q =
     let one : digit (bitAnd a b) k ≡ 1 = digit-and a b k ∙ ap₂ bitAnd p q in
     omega (arith, sym one ∙ ap (λ (x : ℕ). digit x k) e, zero-div (2 ^ k))
 
+-- numbers of which `|` is 0 are 0
 pub or-none : (a b : ℕ) → bitOr a b ≡ 0 → (a ≡ 0) × (b ≡ 0)
 or-none a b e =
     (omega (arith, or-add-and a b, and-le-r a b), omega (arith, or-add-and a b, and-le-l a b))

@@ -1,4 +1,8 @@
--- Laws of the walk: an entry that is not bad is a column, and the tally of the whole list has the weights. Assumes nothing.
+-- Laws of the walk: an entry that is not bad is a column, and the tally of the whole list has the weights.
+--   good-below     == an entry that is not bad is a column
+--   tally-weight   == the tally of the whole list has the weights
+--   tally-off      == the first column whose tally is off is the first of a wrong weight
+-- Assumes nothing.
 use mathlib.Core.Path.{_≡_, sym, ap, _∙_}
 use mathlib.Core.Bool.{false, not}
 use mathlib.Core.List.{List}
@@ -28,6 +32,7 @@ module _ (H : Matrix) where
   pub tally-weight : (v : List ℕ) → length (H .list) ≡ H .m * H .rho → Tally (listAt H) (length (H .list)) v → (j : ℕ) → j < 1023 → getD v j 0 ≡ weight H j
   tally-weight v whole t j l = t .each j l ∙ ap (λ (k : ℕ). sumBelow k (λ p. same (listAt H p) j)) whole ∙ sym (weight-flat H j)
 
+  -- the first column whose tally is off is the first of a wrong weight
   pub tally-off : (v : List ℕ) → H .n ≤ 1023 → length (H .list) ≡ H .m * H .rho → Tally (listAt H) (length (H .list)) v
       → first (offWeight (H .gamma) v) (H .n) ≡ first (badWeight H) (H .n)
   unfolding offWeight badWeight

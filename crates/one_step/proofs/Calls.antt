@@ -34,11 +34,13 @@ module _ (H : Matrix) (a : Accepted H) (w old : List ℕ) where
   refused-word k x said v e = let q = asked ∙ v in record { says = e ∙ rw q refl; word = rw q refl }
 
   module _ (v : wordVerdict (H .n) w (length old) (H .n) ≡ accepted) where
+    -- it accepts: what the core is lent
     pub word-lent : VoteLent H w old
     word-lent =
         let fit = word-fits (H .n) w (length old) (H .n) v in
         record { matrix = a; long = fit .0; spare = fit .3; room = fit .1 }
 
+    -- and the core's answer is the call's
     pub answered-voted : (out : List ℕ) (said : Said) → Voted H w old out said → OneStepAnswered H w old out said
     unfolding oneStepOf
     answered-voted out said d = let q = asked ∙ v in record { says = d .says ∙ rw q refl; word = d .word ∙ rw q refl }

@@ -1,4 +1,9 @@
--- The report and the word of an accepted call. Assumes nothing.
+-- The report and the word of an accepted call.
+--   packed-word    == the bits after the vote, packed, are the word of the definition
+--   stepped-bits   == the bits after the vote are bits
+--   written-long   == the written bytes are as many as the received ones
+--   voted-call     == what is packed, counted and reported of them is the call's
+-- Assumes nothing.
 use mathlib.Core.Path.{_≡_, refl, sym, ap, ap₂, _∙_}
 use mathlib.Core.List.{List}
 use Prim.Native.Nat.{ℕ, _+_, _*_, _-_, _<_}
@@ -41,10 +46,12 @@ module _ (H : Matrix) (w old : List ℕ) (l : VoteLent H w old) where
     stepped-word : (j : ℕ) → j < H .n → at new j ≡ stepWord H (bitAt w) j
     stepped-word j h = s .each j h ∙ stepWord-cong H (l .matrix .rows) (at bits) (bitAt w) (u .each) j h
 
+    -- the bits after the vote, packed, are the word of the definition
     pub packed-word : pack (H .n) (at new) ≡ oneStepWord H w
     unfolding oneStepWord
     packed-word = pack-cong (H .n) (at new) (stepWord H (bitAt w)) stepped-word
 
+    -- the bits after the vote are bits
     pub stepped-bits : (j : ℕ) → j < H .n → at new j < 2
     unfolding Word
     stepped-bits j h = omega (arith, stepped-word j h, stepWord-bit H (bitAt w) received-word j h)
@@ -64,6 +71,7 @@ module _ (H : Matrix) (w old : List ℕ) (l : VoteLent H w old) where
         let k : length (pack (H .n) (at new)) ≡ bytesFor (H .n) = length-pack (H .n) (at new) in
         ap₂ (λ (x : ℕ) (y : List ℕ). length (take x y)) (sym k) o ∙ ap length (take-over (pack (H .n) (at new)) old) ∙ k
 
+    -- what is packed, counted and reported of them is the call's
     pub voted-call : (out : List ℕ) (changed : ℕ) (said : Said) → out ≡ over (pack (H .n) (at new)) old
         → changed ≡ distance (8 * length (take (bytesFor (H .n)) out)) (bitAt (take (bytesFor (H .n)) out)) (bitAt w)
         → said ≡ report (outcomeBy f) rounds f changed → Voted H w old out said

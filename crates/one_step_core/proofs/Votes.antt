@@ -1,4 +1,8 @@
--- The vote on an unpacked word is the definition's. Assumes nothing.
+-- The vote on an unpacked word is the definition's.
+--   stepped-clean   == no check fails: nothing moves
+--   voted-bits      == a word that is voted on stays a word
+--   stepped-voted   == some check fails: the bits are flipped, and the checks counted again
+-- Assumes nothing.
 use mathlib.Core.Path.{_≡_, sym, ap, _∙_}
 use mathlib.Core.List.{List}
 use Prim.Native.Nat.{ℕ, _*_, _<_}
@@ -49,6 +53,7 @@ module _ (H : Matrix) (a : Accepted H) (bits v : List ℕ) (f : ℕ) (t : Tallie
       ∙ sym (flipped-by H a (at bits) j h)
       ∙ ap (λ (g : ℕ → ℕ). g j) (sym (stepWord-flipped H (at bits)))
 
+  -- a word that is voted on stays a word
   pub voted-bits : (new : List ℕ) → Voted (H .n) (H .gamma) v bits new → Word H (at bits) → Word H (at new)
   unfolding Word
   voted-bits new w b j h = omega (arith, voted-word new w j h, stepWord-bit H (at bits) b j h)

@@ -1,4 +1,9 @@
--- The set digits of a byte, and the places at which two words differ, byte by byte. Assumes nothing.
+-- The set digits of a byte, and the places at which two words differ, byte by byte.
+--   ones-apart      == the set digits of the exclusive or are the places at which the bytes differ
+--   apart-few       == two bytes differ at 8 places at most
+--   distance-none   == over no places the distance is 0
+--   distance-more   == one byte more adds the places at which the two bytes differ
+-- Assumes nothing.
 use mathlib.Core.Path.{_≡_, refl, sym, ap, ap₂, _∙_}
 use mathlib.Core.List.{List}
 use Prim.Native.Nat.{ℕ, zero, suc, _+_, _*_, _-_, _/_, _^_, _≤_, _<_}
@@ -52,12 +57,14 @@ pub ones-apart : (x y : ℕ) → x < 256 → y < 256 → ones (bitXor x y) ≡ a
 unfolding apart
 ones-apart x y h l = ones-byte (bitXor x y) (xor-lt 8 x y h l) ∙ sum-cong 8 (λ i m. xor-apart x y (7 - i))
 
+-- two bytes differ at 8 places at most
 pub apart-few : (r x y : ℕ) → r ≡ apart x y → r ≤ 8
 unfolding apart
 apart-few r x y e = omega (arith, sum-bound 8 1 {f = λ i. unequal (digit x (7 - i)) (digit y (7 - i))} (λ i l. differ-le (digit x (7 - i)) (digit y (7 - i))))
 
 -- ---- words, byte by byte
 
+-- over no places the distance is 0
 pub distance-none : (z c : ℕ → ℕ) → 0 ≡ distance 0 z c
 unfolding distance sumBelow
 distance-none z c = refl

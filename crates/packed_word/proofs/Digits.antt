@@ -1,4 +1,10 @@
--- Binary digits of a byte: the byte made of eight bits, and the eight bits of a byte. Assumes nothing.
+-- Binary digits of a byte: the byte made of eight bits, and the eight bits of a byte.
+--   byte         == the byte with bits f 0 .. f 7, the highest first
+--   each-place   == what holds of each of the eight places holds of every place below 8
+--   byte-small   == a byte made of eight bits is below 256
+--   digit-byte   == its bits are those that it is made of
+--   byte-digit   == the byte made of a byte's bits is that byte
+-- Assumes nothing.
 use mathlib.Core.Path.{_≡_, ap, _∙_}
 use Prim.Native.Nat.{ℕ, zero, suc, _+_, _*_, _-_, _/_, _^_, _<_}
 use native.Mathlib.Nat.{div-eq-of-lt}
@@ -25,6 +31,7 @@ each-place P a b c d e f g h (suc (suc (suc (suc (suc (suc (suc zero))))))) l = 
 each-place P a b c d e f g h (suc (suc (suc (suc (suc (suc (suc (suc i)))))))) l = absurd (omega arith)
 
 module _ (f : ℕ → ℕ) (bits : (i : ℕ) → i < 8 → f i < 2) where
+  -- a byte made of eight bits is below 256
   pub byte-small : byte f < 256
   unfolding sumBelow
   byte-small =

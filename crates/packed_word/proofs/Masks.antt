@@ -1,4 +1,9 @@
--- Digits of a byte in which one bit is set or turned over by a shifted 1, and of a byte that gets one bit more. Assumes nothing.
+-- Digits of a byte in which one bit is set or turned over by a shifted 1, and of a byte that gets one bit more.
+--   or-here, or-there     == `|` with 2 ^ k sets digit k and leaves the others
+--   xor-here, xor-there   == `^` with 2 ^ k turns digit k over and leaves the others
+--   shl-one               == 1 shifted by less than 8 places stays in a byte
+--   shl-or                == a byte below 128 gets one bit more at the low end
+-- Assumes nothing.
 use mathlib.Core.Path.{_≡_, refl, ap, _∙_}
 use Prim.Native.Nat.{ℕ, zero, suc, _+_, _*_, _-_, _/_, _%_, _^_, _<_}
 use native.Mathlib.Nat.{div-self, div-eq-of-lt, mul-div-cancel, mul-mod-left, one-mul}
@@ -30,6 +35,7 @@ one-there k l h =
 
 -- ---- one digit set
 
+-- `|` with 2 ^ k sets digit k and leaves the others
 pub or-here : (b k : ℕ) → digit (bitOr b (2 ^ k)) k ≡ 1
 or-here b k = digit-or b (2 ^ k) k ∙ ap (bitOr (digit b k)) (one-here k) ∙ or-one (digit b k) (omega arith)
 
@@ -43,6 +49,7 @@ xor-one zero h = refl
 xor-one (suc zero) h = refl
 xor-one (suc (suc x)) h = absurd (omega arith)
 
+-- `^` with 2 ^ k turns digit k over and leaves the others
 pub xor-here : (b k : ℕ) → digit (bitXor b (2 ^ k)) k ≡ 1 - digit b k
 xor-here b k = digit-xor b (2 ^ k) k ∙ ap (bitXor (digit b k)) (one-here k) ∙ xor-one (digit b k) (omega arith)
 
@@ -51,6 +58,7 @@ xor-there b k l h = digit-xor b (2 ^ k) l ∙ ap (bitXor (digit b l)) (one-there
 
 -- ---- shifts that a byte has room for
 
+-- 1 shifted by less than 8 places stays in a byte
 pub shl-one : (k : ℕ) → k < 8 → 1 * 2 ^ k % 256 ≡ 2 ^ k
 shl-one k h = shl-exact {a = 1} 1 k 8 (omega arith) (omega arith) ∙ one-mul (2 ^ k)
 

@@ -1,4 +1,26 @@
--- Laws of packed words: the bits and bytes of `pack`, its spare places, and packing back what was read. Assumes nothing.
+-- Laws of packed words: the bits and bytes of `pack`, its spare places, and packing back what was read.
+--   bit-bit                    == a bit of a word is 0 or 1
+--   bit-past                   == past its last byte a word has no ones
+--   bit-of                     == bit i of byte q is digit 7 - i of the byte
+--   ended                      == the bits of z below n, and none from n on
+--   ended-in, ended-out        == of bits that end at n, those below n are as they were and the others 0
+--   ended-bit, ended-small     == each of them is 0 or 1
+--   ended-cong                 == bits that agree below n agree everywhere once they end at n
+--   length-pack                == a packed word has the bytes for n bits
+--   byte-pack                  == byte q of a packed word is made of its eight bits
+--   packed-small               == a byte made of bits is below 256
+--   bitAt-pack                 == the bits of a packed word are those that were packed
+--   spare-pack                 == its spare places are 0
+--   bytes-pack                 == it consists of bytes
+--   pack-cong                  == bits that agree below n are packed alike
+--   spareOne                   == whether the spare place n + i is set
+--   spare-clear, clear-spare   == no spare place is set exactly where all of them are 0
+--   pack-bitAt                 == a word with clear spare places is the packing of its bits
+--   spare-start                == the search of the spare places starts with none found
+--   spare-found                == a spare place that is 1 is found
+--   spare-more                 == past one that is not the search goes on
+--   spare-end                  == at the end of the last byte no spare place is set
+-- Assumes nothing.
 use mathlib.Core.Path.{_≡_, sym, ap, _∙_}
 use mathlib.Core.Bool.{Bool, true, false}
 use mathlib.Core.List.{List}
@@ -19,6 +41,7 @@ use Rattle.packed_word.specs.Paper.Packed.{bitAt, bytesFor, packedByte, 
 use Rattle.counting.specs.Digits.{digit}
 use Rattle.packed_word.proofs.Digits.{byte-small, digit-byte, byte-digit}
 
+-- a bit of a word is 0 or 1
 pub bit-bit : (w : List ℕ) (j : ℕ) → bitAt w j < 2
 unfolding bitAt
 bit-bit w j = omega arith
@@ -42,12 +65,14 @@ bit-of w q i l =
 abbrev pub ended : ℕ → (ℕ → ℕ) → ℕ → ℕ
 ended n z j = flag (ltb j n) * z j
 
+-- of bits that end at n, those below n are as they were and the others 0
 pub ended-in : (n : ℕ) (z : ℕ → ℕ) (j : ℕ) → j < n → ended n z j ≡ z j
 ended-in n z j l = ap (λ (t : Bool). flag t * z j) (lt-ltb j n l) ∙ one-mul (z j)
 
 pub ended-out : (n : ℕ) (z : ℕ → ℕ) (j : ℕ) → n ≤ j → ended n z j ≡ 0
 ended-out n z j l = ap (λ (t : Bool). flag t * z j) (le-ltb j n l) ∙ zero-mul (z j)
 
+-- each of them is 0 or 1
 pub ended-bit : (n : ℕ) (z : ℕ → ℕ) → ((j : ℕ) → j < n → z j < 2) → (j : ℕ) → ended n z j < 2
 ended-bit n z h j =
     elim (decLt j n) [ yes l ↦ omega (arith, ended-in n z j l, h j l) | no g ↦ omega (arith, ended-out n z j (omega arith)) ]
@@ -65,6 +90,7 @@ ended-cong n z c h j =
 
 -- ---- packing
 
+-- a packed word has the bytes for n bits
 pub length-pack : (n : ℕ) (z : ℕ → ℕ) → length (pack n z) ≡ bytesFor n
 unfolding pack
 length-pack n z = length-listed (bytesFor n) (packedByte n z)
@@ -79,6 +105,7 @@ module _ (n : ℕ) (z : ℕ → ℕ) (bits : (j : ℕ) → j < n → z j < 2) wh
   unfolding packedByte
   digit-packed q i l = digit-byte (λ i. ended n z (8 * q + i)) (λ i l. ended-bit n z bits (8 * q + i)) i l
 
+  -- a byte made of bits is below 256
   pub packed-small : (q : ℕ) → packedByte n z q < 256
   unfolding packedByte
   packed-small q = byte-small (λ i. ended n z (8 * q + i)) (λ i l. ended-bit n z bits (8 * q + i))
@@ -90,9 +117,11 @@ module _ (n : ℕ) (z : ℕ → ℕ) (bits : (j : ℕ) → j < n → z j < 2) wh
       let e : 8 * (j / 8) + j % 8 ≡ j = omega arith in
       ap (λ (x : ℕ). digit x (7 - j % 8)) (byte-pack n z (j / 8) l) ∙ digit-packed (j / 8) (j % 8) (omega arith) ∙ ap (ended n z) e
 
+  -- the bits of a packed word are those that were packed
   pub bitAt-pack : (j : ℕ) → j < n → bitAt (pack n z) j ≡ z j
   bitAt-pack j l = bitAt-ended j (omega arith) ∙ ended-in n z j l
 
+  -- its spare places are 0
   pub spare-pack : (j : ℕ) → n ≤ j → bitAt (pack n z) j ≡ 0
   spare-pack j l =
       elim (decLt (j / 8) (bytesFor n)) [
@@ -100,6 +129,7 @@ module _ (n : ℕ) (z : ℕ → ℕ) (bits : (j : ℕ) → j < n → z j < 2) wh
         | no g ↦ bit-past (pack n z) j (omega (arith, length-pack n z))
       ]
 
+  -- it consists of bytes
   pub bytes-pack : Bytes (pack n z)
   unfolding Bytes
   bytes-pack q =
@@ -108,6 +138,7 @@ module _ (n : ℕ) (z : ℕ → ℕ) (bits : (j : ℕ) → j < n → z j < 2) wh
         | no g ↦ omega (arith, List·getD-eq-default (pack n z) 0 {n = q} (omega (arith, length-pack n z)))
       ]
 
+-- bits that agree below n are packed alike
 pub pack-cong : (n : ℕ) (z c : ℕ → ℕ) → ((j : ℕ) → j < n → z j ≡ c j) → pack n z ≡ pack n c
 unfolding pack packedByte
 pack-cong n z c h =
@@ -120,6 +151,7 @@ pack-cong n z c h =
 abbrev pub spareOne : ℕ → List ℕ → ℕ → Bool
 spareOne n w i = eqb (bitAt w (n + i)) 1
 
+-- no spare place is set exactly where all of them are 0
 pub spare-clear : (n : ℕ) (w : List ℕ) → spareSet n w ≡ false → (j : ℕ) → n ≤ j → j < 8 * bytesFor n → bitAt w j ≡ 0
 unfolding spareSet
 spare-clear n w h j l m =
@@ -153,18 +185,21 @@ pack-bitAt n w small long clear =
 
 -- a search over the spare places: it starts, it finds one that is set, it goes on, it comes to the end
 module _ (n : ℕ) (w : List ℕ) where
+  -- the search of the spare places starts with none found
   pub spare-start : (j : ℕ) → j ≡ n → anyBelow (spareOne n w) (j - n) ≡ false
   unfolding anyBelow
   spare-start j e =
       let z : j - n ≡ 0 = omega arith in
       ap (anyBelow (spareOne n w)) z
 
+  -- a spare place that is 1 is found
   pub spare-found : (j : ℕ) → n ≤ j → j < 8 * bytesFor n → bitAt w j ≡ 1 → true ≡ spareSet n w
   unfolding spareSet
   spare-found j l m e =
       let q : n + (j - n) ≡ j = omega arith in
       sym (any-at (spareOne n w) (8 * bytesFor n - n) (j - n) (omega arith) (eq-eqb (bitAt w (n + (j - n))) 1 (ap (bitAt w) q ∙ e)))
 
+  -- past one that is not the search goes on
   pub spare-more : (j k : ℕ) → n ≤ j → k ≡ j + 1 → anyBelow (spareOne n w) (j - n) ≡ false → (bitAt w j ≡ 1 → ⊥) → anyBelow (spareOne n w) (k - n) ≡ false
   spare-more j k l e h ne =
       let q : n + (j - n) ≡ j = omega arith in
@@ -172,6 +207,7 @@ module _ (n : ℕ) (w : List ℕ) where
       ap (anyBelow (spareOne n w)) s ∙ any-step (spareOne n w) (j - n)
       ∙ rw (h, ne-eqb (bitAt w (n + (j - n))) 1 (λ f. ne (ap (bitAt w) (sym q) ∙ f)))
 
+  -- at the end of the last byte no spare place is set
   pub spare-end : (j : ℕ) → j ≡ 8 * bytesFor n → anyBelow (spareOne n w) (j - n) ≡ false → false ≡ spareSet n w
   unfolding spareSet
   spare-end j e h = sym (ap (λ (k : ℕ). anyBelow (spareOne n w) (k - n)) (sym e) ∙ h)

@@ -1,4 +1,14 @@
--- What one store does to a packed or an unpacked word, and the word that is made bit by bit. Assumes nothing.
+-- What one store does to a packed or an unpacked word, and the word that is made bit by bit.
+--   bit-set, bit-flipped   == a stored byte with one bit set or turned over sets or turns over that bit of the word alone
+--   unpacked-more          == one bit more is unpacked
+--   eight                  == bit i of byte q of the word with bits z that ends at n
+--   binaryOf               == the number with bits f 0 .. f (i - 1), the highest first
+--   binary-none            == the number without bits is 0
+--   binary-more            == one bit more at the low end makes the next number
+--   binary-all             == eight bits make the packed byte
+--   binary-room            == fewer than eight bits leave room for one more
+--   over-next              == one byte more is written
+-- Assumes nothing.
 use mathlib.Core.Path.{_≡_, refl, sym, ap, _∙_}
 use mathlib.Core.List.{List}
 use Prim.Native.Nat.{ℕ, zero, suc, _+_, _*_, _-_, _/_, _%_, _^_, _<_}
@@ -39,6 +49,7 @@ module _ (w : List ℕ) (j v : ℕ) (fits : j / 8 < length w) where
       ]
 
 module _ (w : List ℕ) (j : ℕ) (fits : j / 8 < length w) where
+  -- a stored byte with one bit set or turned over sets or turns over that bit of the word alone
   pub bit-set : SetBit w (set w (j / 8) (bitOr (getD w (j / 8) 0) (2 ^ (7 - j % 8)))) j
   bit-set =
       let b : ℕ = getD w (j / 8) 0 in
@@ -64,6 +75,7 @@ module _ (w : List ℕ) (j : ℕ) (fits : j / 8 < length w) where
 
 -- ---- unpacking
 
+-- one bit more is unpacked
 pub unpacked-more : (k : ℕ) (w old new : List ℕ) (x : ℕ) → k < 1023 → x ≡ bitAt w k → Unpacked k w old new → Unpacked (k + 1) w old (set new k x)
 unpacked-more k w old new x l e u =
     record {
@@ -87,14 +99,17 @@ unfoldable pub binaryOf : (ℕ → ℕ) → ℕ → ℕ
 binaryOf f zero = 0
 binaryOf f (suc i) = 2 * binaryOf f i + f i
 
+-- the number without bits is 0
 pub binary-none : (f : ℕ → ℕ) → 0 ≡ binaryOf f 0
 unfolding binaryOf
 binary-none f = refl
 
+-- one bit more at the low end makes the next number
 pub binary-more : (f : ℕ → ℕ) (i b x r : ℕ) → b ≡ binaryOf f i → x ≡ f i → r ≡ 2 * b + x → r ≡ binaryOf f (i + 1)
 unfolding binaryOf
 binary-more f i b x r p q e = rw (add-one i) (omega arith)
 
+-- eight bits make the packed byte
 pub binary-all : (n : ℕ) (z : ℕ → ℕ) (q : ℕ) → binaryOf (eight n z q) 8 ≡ packedByte n z q
 unfolding binaryOf packedByte sumBelow
 binary-all n z q = omega arith

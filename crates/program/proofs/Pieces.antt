@@ -1,8 +1,8 @@
 -- Laws of the pieces: after each, the run can go on, and it comes to its end.
---   lent-first    == the run begins
---   fits          == what is wanted fits the input buffer
---   lent-next     == after a piece the run can go on
---   rank-next     == and fewer stages are left
+--   lent-first   == the run begins
+--   fits         == what is wanted fits the input buffer
+--   lent-next    == after a piece the run can go on
+--   rank-next    == and fewer stages are left
 -- Assumes nothing.
 use mathlib.Core.Path.{_≡_, sym, ap, _∙_, subst}
 use mathlib.Core.List.{List}

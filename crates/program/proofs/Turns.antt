@@ -1,4 +1,8 @@
--- Reading in pieces changes nothing: the turns of the run print what is to be printed for all blocks. Assumes nothing.
+-- Reading in pieces changes nothing: the turns of the run print what is to be printed for all blocks.
+--   turns-print      == whichever pieces are read, the turns print the blocks' text
+--   turning          == what the program reads at once is a block at least, and none past the 65,535th
+--   program-prints   == the program's turns print the blocks' text
+-- Assumes nothing.
 use mathlib.Core.Path.{_≡_, refl, sym, ap, _∙_}
 use mathlib.Core.Bool.{cond}
 use mathlib.Core.List.{List, [], _∷_, _++_, append-nil, append-assoc}

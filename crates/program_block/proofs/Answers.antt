@@ -1,4 +1,13 @@
--- Laws of the bytes of one block, and of what its answer says. Assumes nothing.
+-- Laws of the bytes of one block, and of what its answer says.
+--   samples-n          == a block of 4 * n bytes has n samples
+--   block-refuses      == refusal 8 at the place that was found
+--   block-passes       == where no place was found nothing is refused
+--   all-finite         == where no place was found, every sample is finite
+--   all-written        == and all are written
+--   answered-refused   == a refused block is answered with its refusal and leaves the word
+--   answered           == the core's answer on the samples of an accepted block is the block's
+--   block-is-call      == a block is decoded by the whole call of iterative voting
+-- Assumes nothing.
 use mathlib.Core.Path.{_≡_, sym, ap, _∙_}
 use mathlib.Core.Bool.{not}
 use mathlib.Core.List.{List}
@@ -38,6 +47,7 @@ place-of bs =
     ∙ ap (first (notFinite (samplesIn bs))) (sym (length-samples bs))
 
 module _ (n : ℕ) (bs : List ℕ) (whole : length bs ≡ 4 * n) where
+  -- a block of 4 * n bytes has n samples
   pub samples-n : length (samplesIn bs) ≡ n
   samples-n = let q : length bs / 4 ≡ n = omega arith in length-samples bs ∙ q
 
@@ -46,6 +56,7 @@ module _ (n : ℕ) (bs : List ℕ) (whole : length bs ≡ 4 * n) where
   unfolding blockVerdict
   block-refuses r e l = rw (← place-of bs, ← e, samples-n, lt-ltb r n l)
 
+  -- where no place was found nothing is refused
   pub block-passes : (r : ℕ) → r ≡ first (notFiniteIn bs) (length bs / 4) → n ≤ r → blockVerdict (samplesIn bs) ≡ accepted
   unfolding blockVerdict
   block-passes r e l = rw (← place-of bs, ← e, samples-n, le-ltb r n l)

@@ -1,4 +1,6 @@
--- Laws of the line of one block, by its answer and its word. Assumes nothing.
+-- Laws of the line of one block, by its answer and its word.
+--   line-put   == the line of a block is put by its answer and its word, and has at most 289 bytes
+-- Assumes nothing.
 use mathlib.Core.Path.{_≡_, refl, sym, ap, ap₂, _∙_}
 use mathlib.Core.List.{List}
 use Prim.Native.Nat.{ℕ, _+_, _*_, _≤_}

@@ -1,14 +1,16 @@
 -- Laws of the replies: the text of a reply, and the reply to the bytes that came.
---   text-alone            == a text put at the front of the buffer is all that stands before its end
---   replied-as            == an equal reply
+--   text-alone                              == a text put at the front of the buffer is all that stands before its end
+--   text-within                             == a text put at the front of the buffer ends within it
+--   replied-as                              == an equal reply
 --   sizes-short, sizes-refused, sizes-fit   == the reply to the sizes
 --   list-short, list-whole                  == the reply to the list
 --   setting-short, setting-whole            == the reply to the setting
+--   reply                                   == a reply by its text and what is awaited next
 --   blocks-last, blocks-more                == what is awaited after blocks
---   entries-front         == the list at the front of the array
---   opened-reply          == a run that begins, by what was found
---   asked-at, replied-at  == a stage by its case
---   countable             == the blocks that came may be printed
+--   entries-front                           == the list at the front of the array
+--   opened-reply                            == a run that begins, by what was found
+--   asked-at, replied-at                    == a stage by its case
+--   countable                               == the blocks that came may be printed
 -- Assumes nothing.
 use mathlib.Core.Path.{_≡_, sym, ap, _∙_}
 use mathlib.Core.Bool.{true, false}
@@ -54,6 +56,7 @@ replied-as q p = rw q at p
 -- ---- the reply to the sizes
 
 module _ (bs : List ℕ) where
+  -- the reply to the sizes
   pub sizes-short : length bs < 8 → ends shortText ≡ sizesReply bs
   unfolding sizesReply
   sizes-short h = rw (lt-ltb (length bs) 8 h)
@@ -69,6 +72,7 @@ module _ (bs : List ℕ) where
 -- ---- to the list and the setting
 
 module _ (H : Matrix) (bs : List ℕ) where
+  -- the reply to the list
   pub list-short : length bs < 2 * (H .m * H .rho) → ends shortText ≡ listReply H bs
   unfolding listReply
   list-short h = rw (lt-ltb (length bs) (2 * (H .m * H .rho)) h)
@@ -77,6 +81,7 @@ module _ (H : Matrix) (bs : List ℕ) where
   unfolding listReply
   list-whole h = rw (le-ltb (length bs) (2 * (H .m * H .rho)) h)
 
+  -- the reply to the setting
   pub setting-short : length bs < 7 → ends shortText ≡ settingReply H bs
   unfolding settingReply
   setting-short h = rw (lt-ltb (length bs) 7 h)
@@ -87,10 +92,12 @@ module _ (H : Matrix) (bs : List ℕ) where
 
 -- ---- to blocks
 
+-- a reply by its text and what is awaited next
 abbrev pub reply : List ℕ → Awaited → Reply
 reply t a = record { text = t; awaited = a }
 
 module _ (H : Matrix) (S : Setting) (i : ℕ) (bs : List ℕ) where
+  -- what is awaited after blocks
   pub blocks-last : length bs < bytesAtOnce (H .n) i → ends (chunkText H S i bs) ≡ blocksReply H S i bs
   unfolding blocksReply
   blocks-last h = rw (lt-ltb (length bs) (bytesAtOnce (H .n) i) h)
@@ -125,6 +132,7 @@ countable H S {i} {k} {bs} d o h e =
 -- ---- a stage by its case
 
 module _ {s t : Stage} (e : s ≡ t) (l bs : List ℕ) {out : List ℕ} where
+  -- a stage by its case
   pub asked-at : Asked (awaitedOf s l) l bs out → Asked (awaitedOf t l) l bs out
   asked-at p = rw e at p
 

@@ -1,8 +1,8 @@
 -- Laws of the stages: each leads to one that can be read, and the run comes to its end.
---   wanted-fits    == what is wanted fits the input buffer
---   ready-next     == what is awaited next can be read
---   rank           == a bound on the stages that are left
---   rank-falls     == it falls with each stage
+--   wanted-fits   == what is wanted fits the input buffer
+--   ready-next    == what is awaited next can be read
+--   rank          == a bound on the stages that are left
+--   rank-falls    == it falls with each stage
 -- Assumes nothing.
 use mathlib.Core.Path.{_≡_, refl, ap}
 use mathlib.Core.Bool.{Bool, true, false, cond}
@@ -39,6 +39,7 @@ blocks-left H S i r h =
           absurd (omega (arith, ap (λ (k : ℕ). k * (4 * H .n)) none))
     ]
 
+-- what is wanted fits the input buffer
 pub wanted-fits : (a : Awaited) → Ready a → wanted a ≤ 65472
 wanted-fits theSizes r = omega arith
 wanted-fits (theList H) r = omega (arith, few H r)
@@ -59,6 +60,7 @@ opened-ready H S (openWith T) e = (decodable H S T e refl, omega arith)
 abbrev ReadyNext : Reply → Type 0
 ReadyNext t = Ready (t .awaited)
 
+-- what is awaited next can be read
 pub ready-next : (a : Awaited) (bs : List ℕ) → Ready a → Ready (replyTo a bs .awaited)
 unfolding sizesReply listReply settingReply blocksReply
 ready-next theSizes bs r =
@@ -71,6 +73,7 @@ ready-next nothing bs r = tt
 
 -- ---- the run comes to its end
 
+-- a bound on the stages that are left
 abbrev pub rank : Awaited → ℕ
 rank theSizes = 65538
 rank (theList H) = 65537
@@ -85,6 +88,7 @@ opened-rank H (openWith T) = omega arith
 abbrev Lower : ℕ → Reply → Type 0
 Lower k t = rank (t .awaited) < k
 
+-- it falls with each stage
 pub rank-falls : (a : Awaited) (bs : List ℕ) → Ready a → 0 < wanted a → rank (replyTo a bs .awaited) < rank a
 unfolding sizesReply listReply settingReply blocksReply
 rank-falls theSizes bs r h =

@@ -1,4 +1,10 @@
--- Laws of how a run begins: the sizes alone, and the matrix before the setting. Assumes nothing.
+-- Laws of how a run begins: the sizes alone, and the matrix before the setting.
+--   numberIn                        == a verdict's number, 0 where it accepts
+--   sizes-alone                     == with an empty list the check's number is 1 exactly where the sizes are out of range
+--   matrix-passes, matrix-refuses   == an accepted matrix leaves it to the setting how the run begins, a refused one does not
+--   decodable                       == a run begins only with a matrix and a setting that are accepted
+--   few                             == sizes in range have at most 32,736 entries
+-- Assumes nothing.
 use mathlib.Core.Path.{_≡_, refl, sym, ap, _∙_}
 use mathlib.Core.Bool.{Bool, true, false, not}
 use mathlib.Core.List.{[]}
@@ -64,11 +70,13 @@ module _ (H : Matrix) (S T : Setting) where
   by-tests accepted p false q e = absurd (differs e)
   by-tests (refused k x) p b q e = absurd (differs e)
 
+  -- a run begins only with a matrix and a setting that are accepted
   pub decodable : {o : Opening} → o ≡ opening (openingVerdict H S) S → o ≡ openWith T → Decodable H T
   unfolding openingVerdict settingVerdict
   decodable e q = by-tests (checkOf H) refl (settingFits S) refl (sym q ∙ e)
 
 -- ---- the list fits its array
 
+-- sizes in range have at most 32,736 entries
 pub few : (H : Matrix) → sizesFit H ≡ true → H .m * H .rho ≤ 32736
 few H e = few-entries H (sizes-say H e)

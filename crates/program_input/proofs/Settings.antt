@@ -1,4 +1,10 @@
--- Laws of the setting that stands in seven bytes, and of how a run begins by it. Assumes nothing.
+-- Laws of the setting that stands in seven bytes, and of how a run begins by it.
+--   settingBy                      == a setting by its width, its limit, its kind of step and its step
+--   choice-is                      == the setting in the bytes, by its parts
+--   kind-unfit                     == a setting with a third kind of step is out of range
+--   float-unfit                    == a setting with a step that is not finite is out of range
+--   begins-refused, begins-ready   == a setting out of range is refused as 6, one in range begins the run
+-- Assumes nothing.
 use mathlib.Core.Path.{_≡_, refl, ap}
 use mathlib.Core.Bool.{Bool, true, false, _&&_}
 use mathlib.Core.List.{List}
@@ -22,6 +28,7 @@ step-unfit (inf true) h = refl
 step-unfit (inf false) h = refl
 step-unfit (fin s m e) h = absurd (never h)
 
+-- a setting by its width, its limit, its kind of step and its step
 abbrev pub settingBy : ℕ → ℕ → ℕ → Float → Setting
 settingBy b l k x = record { bits = b; limit = l; kind = k; step = x }
 

@@ -1,5 +1,12 @@
 -- Laws of the lines of blocks: line after line, and the end of a chunk.
 --   Lined H S i bs at old k from new end   == the lines of the first k blocks are put, and block k begins at `from`
+--   lined-none                             == no line is put yet
+--   counted                                == the next block is one of the whole blocks
+--   lined-asks                             == its line may be put
+--   lined-more                             == once it is put there is one line more
+--   lined-all                              == where less than a block is left all lines are put
+--   chunk-whole, chunk-cut                 == the text of a chunk that ends with a block, and of one that does not
+--   chunk-ends                             == the text of a chunk ends in the buffer
 -- Assumes nothing.
 use mathlib.Core.Path.{_≡_, sym, ap₂}
 use mathlib.Core.List.{List, append-nil}
@@ -37,6 +44,7 @@ module _ (H : Matrix) (S : Setting) where
   -- ---- line after line
 
   module _ (i : ℕ) (bs : List ℕ) (at : ℕ) (old : List ℕ) where
+    -- the lines of the first k blocks are put, and block k begins at `from`
     pub record Lined (k from : ℕ) (new : List ℕ) (end : ℕ) : Type 0 where
       pub begins : from ≡ k * (4 * H .n)
       pub inside : from ≤ length bs
@@ -53,6 +61,7 @@ module _ (H : Matrix) (S : Setting) where
 
       -- another block fits
       module _ (h : 4 * H .n ≤ length bs - from) where
+        -- the next block is one of the whole blocks
         pub counted : k + 1 ≤ blocksIn H bs
         counted = counts-more (4 * H .n) (length bs) k some (omega (arith, l .begins, l .inside, some))
 

@@ -1,4 +1,13 @@
--- Laws of decimal and hexadecimal digits. Assumes nothing.
+-- Laws of decimal and hexadecimal digits.
+--   decimal-one           == a number below 10 is one digit
+--   decimal-more          == any other has the digits of its tenth, and its last digit
+--   length-decimal-more   == so it has one digit more than its tenth
+--   decimal-within        == a number below 10 ^ (k + 1) has at most k + 1 digits
+--   decimal-five          == a number below 65,536 has at most 5 digits
+--   number-ends           == a number's field ends within 6 bytes
+--   hex-append            == the digits of bytes one after another are those of each part
+--   length-hex            == each byte has two hexadecimal digits
+-- Assumes nothing.
 use mathlib.Core.Path.{_≡_, refl, sym, ap, _∙_}
 use mathlib.Core.List.{List, [], _∷_, _++_}
 use Prim.Native.Nat.{ℕ, zero, suc, _+_, _*_, _/_, _%_, _^_, _≤_, _<_}
@@ -46,6 +55,7 @@ decimal-more (suc x) h =
     within-more x (suc x) h
     ∙ ap (λ (d : List ℕ). d ++ (digit (suc x % 10) ∷ [])) (within-enough x (suc x / 10) (suc x / 10) (omega arith) (omega arith))
 
+-- so it has one digit more than its tenth
 pub length-decimal-more : (x : ℕ) → 10 ≤ x → length (decimal x) ≡ length (decimal (x / 10)) + 1
 length-decimal-more x h = ap length (decimal-more x h) ∙ length-append (decimal (x / 10)) (digit (x % 10) ∷ [])
 
@@ -58,6 +68,7 @@ decimal-within (suc k) x h =
       | no n ↦ omega (arith, length-decimal-more x (omega arith), decimal-within k (x / 10) (omega arith))
     ]
 
+-- a number below 65,536 has at most 5 digits
 pub decimal-five : (x : ℕ) → x < 65536 → length (decimal x) ≤ 5
 decimal-five x h = decimal-within 4 x (omega arith)
 
@@ -67,11 +78,13 @@ number-ends x e h p = omega (arith, p .ends, length-append (decimal x) (e ∷ []
 
 -- ---- hexadecimal digits
 
+-- the digits of bytes one after another are those of each part
 pub hex-append : (v w : List ℕ) → hex (v ++ w) ≡ hex v ++ hex w
 unfolding hex
 hex-append [] w = refl
 hex-append (b ∷ v) w = rw (hex-append v w)
 
+-- each byte has two hexadecimal digits
 pub length-hex : (w : List ℕ) → length (hex w) ≡ 2 * length w
 unfolding hex
 length-hex [] = refl

@@ -1,4 +1,10 @@
--- Laws of text put into a buffer: piece after piece. Assumes nothing.
+-- Laws of text put into a buffer: piece after piece.
+--   put-none     == the empty text leaves the buffer as it was
+--   put-then     == one text put after another is both put as one
+--   put-as       == an equal text is put alike
+--   put-length   == the buffer is as long as before
+--   put-front    == what then stands before the end: what stood before the text, and the text
+-- Assumes nothing.
 use mathlib.Core.Path.{_≡_, refl, sym, ap, ap₂, _∙_}
 use mathlib.Core.List.{List, [], _++_}
 use Prim.Native.Nat.{ℕ, _+_, _≤_}

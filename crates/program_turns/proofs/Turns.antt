@@ -1,6 +1,6 @@
 -- Laws of the blocks that are read at once.
---   at-once       == they fit both buffers, and none is past the 65,535th
---   many          == the same of `atOnce`
+--   at-once   == they fit both buffers, and none is past the 65,535th
+--   many      == the same of `atOnce`
 -- Assumes nothing.
 use mathlib.Core.Path.{refl}
 use Prim.Native.Nat.{ℕ, min, _*_, _-_, _/_, _≤_, _<_}

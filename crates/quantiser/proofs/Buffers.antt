@@ -1,4 +1,9 @@
--- What `fill` stores: nothing yet, one sample more, and that the levels by a setting's scale are the setting's. Assumes nothing.
+-- What `fill` stores: nothing yet, one sample more, and that the levels by a setting's scale are the setting's.
+--   stored-none     == nothing is stored yet
+--   stored-more     == one sample more is stored
+--   stored-filled   == what is stored by a setting's scale is what the setting gives
+--   filled-bit      == the cells filled are bits
+-- Assumes nothing.
 use mathlib.Core.Path.{_≡_, refl, sym, ap, _∙_}
 use mathlib.Core.List.{List}
 use Prim.Native.Nat.{ℕ, _+_, _*_, _^_, _<_}
@@ -19,10 +24,12 @@ use Rattle.quantiser.specs.Buffers.{Stored, Filled}
 use Rattle.quantiser_settings.proofs.Ranges.{hard-bit-at}
 
 module _ {f : ℕ → ℤ} {b : ℕ → ℕ} {ls : List ℤ} {bs : List ℕ} where
+  -- nothing is stored yet
   pub stored-none : Stored f b 0 ls ls bs bs
   stored-none =
       record { levels = sym (over-none f ls); broad = refl; long = refl; each = λ j l. absurd (not-suc-le-zero l); rest = λ j l. refl }
 
+  -- one sample more is stored
   pub stored-more : {k : ℕ} {ls′ : List ℤ} {bs′ : List ℕ} {v : ℤ} {h : ℕ} → k < length ls → k < length bs → v ≡ f k → h ≡ b k
       → Stored f b k ls ls′ bs bs′ → Stored f b (k + 1) ls (set ls′ k v) bs (set bs′ k h)
   stored-more {k} {ls′} {bs′} {v} {h} room cells e q p =

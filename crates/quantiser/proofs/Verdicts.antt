@@ -1,4 +1,15 @@
--- What the quantiser answers and writes, case by case of its refusals. Assumes nothing.
+-- What the quantiser answers and writes, case by case of its refusals.
+--   verdict-setting                  == refusal 6 where the setting is out of range
+--   verdict-buffer                   == else refusal 7 where a buffer is too short
+--   verdict-sample                   == else refusal 8 at the first sample that is not finite
+--   verdict-accepted                 == else nothing is refused
+--   long-enough                      == buffers that are not too short have room for at most 1023 samples' levels and bits
+--   accepted-reads, reads-accepted   == a call is accepted exactly where what it asks holds
+--   quantised-refused                == a refused call leaves both buffers
+--   quantised-accepted               == an accepted one writes the levels and the cells filled, packed
+--   no-samples                       == without samples a call by a setting in range is accepted, whatever the buffers
+--   nothing-written                  == without samples nothing is written
+-- Assumes nothing.
 use mathlib.Core.Path.{_≡_, refl, sym, ap, _∙_}
 use mathlib.Core.Bool.{Bool, true, false, not, _||_}
 use mathlib.Core.List.{List, []}
@@ -28,19 +39,23 @@ use Rattle.quantiser_settings.proofs.Ranges.{fits-reads, reads-fits, all-finite
 -- ---- the verdict
 
 module _ (S : Setting) (xs : List Float) (l b : ℕ) where
+  -- refusal 6 where the setting is out of range
   pub verdict-setting : settingFits S ≡ false → quantiseVerdict S xs l b ≡ refused 6 0
   unfolding quantiseVerdict
   verdict-setting e = rw e
 
+  -- else refusal 7 where a buffer is too short
   pub verdict-buffer : settingFits S ≡ true → tooShort (length xs) l b ≡ true → quantiseVerdict S xs l b ≡ refused 7 0
   unfolding quantiseVerdict
   verdict-buffer e f = rw (e, f)
 
+  -- else refusal 8 at the first sample that is not finite
   pub verdict-sample : settingFits S ≡ true → tooShort (length xs) l b ≡ false → firstNotFinite xs < length xs
       → quantiseVerdict S xs l b ≡ refused 8 (firstNotFinite xs)
   unfolding quantiseVerdict
   verdict-sample e f h = rw (e, f, lt-ltb _ _ h)
 
+  -- else nothing is refused
   pub verdict-accepted : settingFits S ≡ true → tooShort (length xs) l b ≡ false → firstNotFinite xs ≡ length xs → quantiseVerdict S xs l b ≡ accepted
   unfolding quantiseVerdict
   verdict-accepted e f h = rw (e, f, le-ltb _ _ (le-of-eq (sym h)))
@@ -57,6 +72,7 @@ long-enough n l b e =
 -- ---- accepted exactly when no refusal applies
 
 module _ (S : Setting) (xs : List Float) (l b : ℕ) where
+  -- a call is accepted exactly where what it asks holds
   pub accepted-reads : quantiseVerdict S xs l b ≡ accepted → Acceptable S xs l b
   accepted-reads e =
       cases (settingFits S)

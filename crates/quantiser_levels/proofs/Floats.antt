@@ -1,4 +1,13 @@
--- A finite float by its bit pattern: its sign, and its magnitude in units of 2 ^ -149. Assumes nothing.
+-- A finite float by its bit pattern: its sign, and its magnitude in units of 2 ^ -149.
+--   both-tests      == a float above minus infinity is finite exactly where it is below infinity
+--   first-test      == a float that is not above minus infinity is not finite
+--   finite-no-nan   == a finite float is no NaN
+--   low-apart       == the sign and the magnitude of a pattern with exponent field 0
+--   high-apart      == those of a finite float's pattern with another exponent field
+--   moved           == an equal float has the same sign and magnitude
+--   step-finite     == a step in range is finite
+--   step-lead       == its significand is at least 2 ^ 23
+-- Assumes nothing.
 use mathlib.Core.Path.{_≡_, refl, sym, ap, _∙_, subst}
 use mathlib.Core.Bool.{Bool, true, false, not, _&&_, cond}
 use Prim.Native.Nat.{ℕ, zero, suc, _+_, _-_, _*_, _/_, _%_, _^_, _≤_, _<_}
@@ -16,6 +25,7 @@ use Rattle.quantiser_levels.specs.Scale.{Digits, Apart}
 
 -- ---- the two tests of `is_finite`
 
+-- a float above minus infinity is finite exactly where it is below infinity
 pub both-tests : (x : Float) → lt (inf true) x ≡ true → lt x (inf false) ≡ finite x
 unfolding lt
 both-tests nan h = refl
@@ -23,12 +33,14 @@ both-tests (inf true) h = sym h
 both-tests (inf false) h = refl
 both-tests (fin s m e) h = refl
 
+-- a float that is not above minus infinity is not finite
 pub first-test : (x : Float) → lt (inf true) x ≡ false → false ≡ finite x
 unfolding lt
 first-test nan h = refl
 first-test (inf s) h = refl
 first-test (fin s m e) h = sym h
 
+-- a finite float is no NaN
 pub finite-no-nan : (x : Float) → T (finite x) → T (not (isNan x))
 unfolding isNan
 finite-no-nan nan h = h
@@ -59,12 +71,14 @@ fields-high s f t h = go (eqb (suc f) 255) (eqb t 0)
     go true false i = absurd i
     go false b i = apart _ s (8388608 + t) f (odd-sign 24 s (8388608 + t) f 149) (record { below = omega arith; lead = λ l. omega arith })
 
+-- the sign and the magnitude of a pattern with exponent field 0
 pub low-apart : (b : ℕ) → b % 2147483648 / 8388608 ≡ 0 → Apart (ofBits binary32 b) (leb 2147483648 b) (b % 8388608) 0
 unfolding ofBits
 low-apart b z =
     subst (λ (f : ℕ). Apart (ofFields binary32 (leb 2147483648 b) f (b % 8388608)) (leb 2147483648 b) (b % 8388608) 0) (sym z)
     (fields-low (leb 2147483648 b) (b % 8388608) (omega arith))
 
+-- those of a finite float's pattern with another exponent field
 pub high-apart : (b : ℕ) → T (finite (ofBits binary32 b)) → (b % 2147483648 / 8388608 ≡ 0 → ⊥)
     → Apart (ofBits binary32 b) (leb 2147483648 b) (8388608 + b % 8388608) (b % 2147483648 / 8388608 - 1)
 unfolding ofBits
@@ -96,6 +110,7 @@ module _ (x : Float) (e : stepFits x ≡ true) where
   above-zero =
       between (fin false 1 (negsuc 19)) x (fin false 1 (pos 20)) tt tt least-le (and-r (le (fin false 1 (negsuc 19)) x) (le x (fin false 1 (pos 20))) tests)
 
+  -- a step in range is finite
   pub step-finite : T (finite x)
   step-finite = positive-finite x above-zero
 
@@ -104,6 +119,7 @@ module _ (x : Float) (e : stepFits x ≡ true) where
       le-div-iff-mul-le (den-pos x) .1
       (values-of-le (fin false 1 (negsuc 19)) x (2 ^ 129) (2 ^ 149) (num x) (den x) tt above-zero (refl, refl) (own-value x above-zero) least-le)
 
+  -- its significand is at least 2 ^ 23
   pub step-lead : {s : Bool} {n : ℕ} (k : ℕ) → Apart x s n k → 2 ^ 23 ≤ n
   step-lead {s} {n} zero a =
       let l : 2 ^ 24 ≤ unitsOf x = le-trans (lit≤ tt) step-from in

@@ -1,4 +1,10 @@
--- The nearest whole number to a fraction: by the difference of two shifts, of which at most 27 places count, and within 64 bits. Assumes nothing.
+-- The nearest whole number to a fraction: by the difference of two shifts, of which at most 27 places count, and within 64 bits.
+--   product                 == the gain times the digits of a sample is below 2 ^ 35
+--   shifted                 == the nearest whole number by the difference of the two shifts, of which at most 27 places count
+--   sample-shl, sample-lt   == the product shifted is the same within 64 bits, and below 2 ^ 62
+--   step-shl, step-lt       == so is the step shifted
+--   step-pos                == the step shifted is not 0
+-- Assumes nothing.
 use mathlib.Core.Path.{_≡_, sym, ap, ap₂, _∙_}
 use Prim.Native.Nat.{ℕ, zero, suc, _+_, _-_, _*_, _/_, _%_, _^_, _≤_, _<_, min}
 use native.Mathlib.Nat.{add-mul, mul-assoc, mul-comm, mul-one, mul-left-comm, mul-div-cancel, div-div-eq-div-mul, sub-zero, zero-sub, zero-mul}
@@ -68,6 +74,7 @@ down g s t {i} {j} h =
     ∙ scale (g * s) (t * 2 ^ (i - j)) (2 ^ j) (pow-pos j)
 
 module _ {g s t top j : ℕ} (w : Narrow g top t) (d : Digits s j) where
+  -- the gain times the digits of a sample is below 2 ^ 35
   pub product : g * s < 2 ^ 35
   product =
       let n : g * s ≤ 2 ^ 11 * s = mul-le-mul-right s (omega (arith, w .few)) in
@@ -121,17 +128,20 @@ module _ {g s t top j : ℕ} (w : Narrow g top t) (d : Digits s j) where
 
   -- within 27 places a shift loses nothing
   module _ (k : ℕ) (h : k ≤ 27) where
+    -- the product shifted is the same within 64 bits, and below 2 ^ 62
     pub sample-shl : g * s * 2 ^ k % 2 ^ 64 ≡ g * s * 2 ^ k
     sample-shl = shl-exact 35 k 64 product (omega arith)
 
     pub sample-lt : g * s * 2 ^ k < 2 ^ 62
     sample-lt = lt-of-lt-of-le (shl-lt 35 k product) (pow-mono {j = 62} (omega arith))
 
+    -- so is the step shifted
     pub step-shl : t * 2 ^ k % 2 ^ 64 ≡ t * 2 ^ k
     step-shl = shl-exact 24 k 64 (w .to) (omega arith)
 
     pub step-lt : t * 2 ^ k < 2 ^ 62
     step-lt = lt-of-lt-of-le (shl-lt 24 k (w .to)) (pow-mono {j = 62} (omega arith))
 
+    -- the step shifted is not 0
     pub step-pos : 0 < t * 2 ^ k
     step-pos = mul-pos (omega (arith, w .from)) (pow-pos k)

@@ -1,4 +1,8 @@
--- The width of a stored level, and a small number with a sign as the bits of one. Assumes nothing.
+-- The width of a stored level, and a small number with a sign as the bits of one.
+--   cell         == the width of `Cell`
+--   minus-fits   == minus a small number fits the width
+--   minus-back   == the bits of minus a small number are read back as it
+-- Assumes nothing.
 use mathlib.Core.Path.{_≡_, ap, _∙_, subst, sym}
 use Prim.Native.Nat.{ℕ, zero, suc, _^_, _<_}
 use native.Mathlib.Nat.{lt-of-le-of-lt, le-suc}
@@ -20,8 +24,10 @@ module _ (w : Width) where
   minus : (n : ℕ) → n < 2 ^ hbits w → pos 0 -ℤ toZ w n ≡ negℤ (pos n)
   minus n h = ap (λ (z : ℤ). pos 0 -ℤ z) (toZ-pos w n h) ∙ +ℤ-idl (negℤ (pos n))
 
+  -- minus a small number fits the width
   pub minus-fits : (n : ℕ) → n < 2 ^ hbits w → SFits w (pos 0 -ℤ toZ w n)
   minus-fits n h = subst (SFits w) (sym (minus n h)) (neg-fits n h)
 
+  -- the bits of minus a small number are read back as it
   pub minus-back : (n : ℕ) → n < 2 ^ hbits w → toZ w (ofZ w (pos 0 -ℤ toZ w n)) ≡ negℤ (pos n)
   minus-back n h = toZ-ofZ w _ (minus-fits n h) ∙ minus n h

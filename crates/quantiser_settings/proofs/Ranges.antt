@@ -1,10 +1,10 @@
 -- Laws for the crates above: refusal 6 in plain words, the bounds of levels and of hard bits.
---   ranges-read, read-ranges   == the width and the limit are in range exactly where 2 ≤ b ≤ 8 and the limit is at most 255
---   fits-reads, reads-fits     == a setting is in range exactly where each of its numbers is
+--   ranges-read, read-ranges     == the width and the limit are in range exactly where 2 ≤ b ≤ 8 and the limit is at most 255
+--   fits-reads, reads-fits       == a setting is in range exactly where each of its numbers is
 --   largest-some, largest-most   == the largest level is from 1 to 127
---   level-bound                == no level lies beyond the largest
---   all-finite                 == where the search for a sample that is not finite finds none, every sample is finite
---   hard-bit, hard-bit-at      == a hard bit is a bit
+--   level-bound                  == no level lies beyond the largest
+--   all-finite                   == where the search for a sample that is not finite finds none, every sample is finite
+--   hard-bit, hard-bit-at        == a hard bit is a bit
 -- Assumes nothing.
 use mathlib.Core.Path.{_≡_, refl, sym, subst}
 use mathlib.Core.Bool.{Bool, true, false, not, cond, _&&_}
@@ -25,6 +25,7 @@ use Rattle.quantiser_settings.specs.Paper.Ranges.{InRange}
 
 -- ---- refusal 6
 
+-- the width and the limit are in range exactly where 2 ≤ b ≤ 8 and the limit is at most 255
 pub ranges-read : (b limit : ℕ) → rangesFit b limit ≡ true → (2 ≤ b) × (b ≤ mostBits) × (limit ≤ 255)
 ranges-read b limit e =
     let e₁ = and-right (leb 2 b) (leb b mostBits && leb limit 255) e in (
@@ -36,6 +37,7 @@ ranges-read b limit e =
 pub read-ranges : (b limit : ℕ) → 2 ≤ b → b ≤ mostBits → limit ≤ 255 → rangesFit b limit ≡ true
 read-ranges b limit least most few = simp (le-leb _ _ least, le-leb _ _ most, le-leb _ _ few)
 
+-- a setting is in range exactly where each of its numbers is
 pub fits-reads : (S : Setting) → settingFits S ≡ true → InRange S
 unfolding settingFits
 fits-reads S e =
@@ -76,6 +78,7 @@ signed-abs true zero = refl
 signed-abs true (suc k) = refl
 signed-abs false k = refl
 
+-- no level lies beyond the largest
 pub level-bound : (S : Setting) (x : Float) → natAbs (levelOf S x) ≤ largest (S .bits)
 unfolding levelOf magnitude
 level-bound S x =
@@ -92,6 +95,7 @@ all-finite xs e j l =
 
 -- ---- hard bits
 
+-- a hard bit is a bit
 pub hard-bit : (x : Float) → hardOf x < 2
 unfolding hardOf
 hard-bit x = go (lt (fin false 0 (pos 0)) x)

@@ -1,12 +1,12 @@
 -- What opening and a step leave: the record, the word and the counts of an accepted one, and the whole call.
---   step-lent                          == an accepted step lends its round what that asks
---   front-long                         == the bytes of the new word are as many as a word's
---   step-leaves                        == the record and the report made of a round's counts are the step's
---   leaves-stepped, leaves-refused     == the whole step, accepted and refused
---   from-leaves                        == the record and the report made of the counts are the opening's from a start state
---   open-fillable, cells-word          == an accepted opening on samples may fill the levels; the cells filled are a word
---   open-leaves                        == the record and the report made of the counts are the opening's on samples
---   leaves-opened, leaves-unopened     == the whole opening, accepted and refused
+--   step-lent                        == an accepted step lends its round what that asks
+--   front-long                       == the bytes of the new word are as many as a word's
+--   step-leaves                      == the record and the report made of a round's counts are the step's
+--   leaves-stepped, leaves-refused   == the whole step, accepted and refused
+--   from-leaves                      == the record and the report made of the counts are the opening's from a start state
+--   open-fillable, cells-word        == an accepted opening on samples may fill the levels; the cells filled are a word
+--   open-leaves                      == the record and the report made of the counts are the opening's on samples
+--   leaves-opened, leaves-unopened   == the whole opening, accepted and refused
 -- Assumes nothing.
 use mathlib.Core.Path.{_≡_, refl, sym, ap, ap₂, _∙_}
 use mathlib.Core.List.{List}
@@ -80,6 +80,7 @@ module _ (H : Matrix) (w : List ℕ) (h : Held) (s : Steppable H w h) where
         ap₂ (λ (x : ℕ) (y : List ℕ). take x y) (sym (length-pack (H .n) (steppedState H h .z))) word-is
         ∙ take-over (pack (H .n) (steppedState H h .z)) (h .word)
 
+    -- the bytes of the new word are as many as a word's
     pub front-long : length (take (bytesFor (H .n)) word′) ≡ bytesFor (H .n)
     front-long = ap length front-is ∙ length-pack (H .n) (steppedState H h .z)
 
@@ -104,6 +105,7 @@ module _ (H : Matrix) (w : List ℕ) (h : Held) (s : Steppable H w h) where
 -- ---- a step as a whole
 
 module _ (H : Matrix) (w : List ℕ) (h : Held) (answer : Answer) (session : Session) where
+  -- the whole step, accepted and refused
   pub leaves-stepped : (word′ : List ℕ) (levels′ : List ℤ) → stepVerdict H w h ≡ accepted → Leaves (steppedLeft H w h) answer session word′ levels′
       → Leaves (stepOf H w h) answer session word′ levels′
   leaves-stepped word′ levels′ e l = rw (accepted-steps H w h e) l
@@ -150,6 +152,7 @@ module _ (H : Matrix) (S : Setting) (xs : List Float) (h : Held) (o : Openable H
     unfolding startOf
     cells-are j l = q .each j (omega (arith, o .samples))
 
+    -- the cells filled are a word
     pub cells-word : Word H (at cells)
     unfolding Word
     cells-word j l = omega (arith, cells-are j l, start-bits S xs j)
@@ -162,6 +165,7 @@ module _ (H : Matrix) (S : Setting) (xs : List Float) (h : Held) (o : Openable H
     unfolding startOf
     none-changed = sym (changed-self H (hardBit xs))
 
+    -- the record and the report made of the counts are the opening's on samples
     pub open-leaves : (f : ℕ) (word′ : List ℕ) (answer : Answer) (session : Session) → word′ ≡ over (pack (H .n) (at cells)) (h .word)
         → f ≡ failing H (at cells)
         → recordOf session ≡ recordFor H (stateAfter f (courseFor S) 0) (courseFor S) 0
@@ -173,6 +177,7 @@ module _ (H : Matrix) (S : Setting) (xs : List Float) (h : Held) (o : Openable H
 -- ---- an opening as a whole
 
 module _ (H : Matrix) (S : Setting) (xs : List Float) (h : Held) (answer : Answer) (session : Session) where
+  -- the whole opening, accepted and refused
   pub leaves-opened : (word′ : List ℕ) (levels′ : List ℤ) → openVerdict H S xs h ≡ accepted → Leaves (openedLeft H S xs h) answer session word′ levels′
       → Leaves (openOf H S xs h) answer session word′ levels′
   leaves-opened word′ levels′ e l = rw (accepted-opens H S xs h e) l

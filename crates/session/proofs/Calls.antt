@@ -1,4 +1,8 @@
--- One call: what the state then says of the word, and that a session ends within its round limit. Assumes nothing.
+-- One call: what the state then says of the word, and that a session ends within its round limit.
+--   after-working            == working says that a check fails and that the rounds are not at the limit
+--   open-means, step-means   == after an accepted opening or step the record's state says what holds of the word
+--   ends-within              == a session ends within its round limit
+-- Assumes nothing.
 use mathlib.Core.Path.{_≡_, refl, ap, _∙_}
 use mathlib.Core.List.{List}
 use Prim.Native.Nat.{ℕ, suc, _≤_, _<_}
@@ -27,6 +31,7 @@ use Rattle.session.proofs.Buffers.{bits-back}
 -- ---- what the state says
 
 module _ (f : ℕ) (course : Course) (k : ℕ) where
+  -- working says that a check fails and that the rounds are not at the limit
   pub after-working : stateAfter f course k ≡ working → (f ≡ 0 → ⊥) × (k ≡ course .limit → ⊥)
   after-working e =
       cases (eqb f 0) (λ y. absurd (let q : 2 ≡ working = rw y at e in omega arith))
@@ -57,6 +62,7 @@ held-means H r course k s h b l =
       if-failed = λ e. let p = after-failed (failing H (s .z)) course k e in (p .0, omega (arith, p .1));
     }
 
+-- after an accepted opening or step the record's state says what holds of the word
 pub open-means : (H : Matrix) (S : Setting) (xs : List Float) (h : Held) → openVerdict H S xs h ≡ accepted
     → Means H (openOf H S xs h .held .rec) (bitAt (openOf H S xs h .held .word))
 open-means H S xs h e =
@@ -83,6 +89,7 @@ within-limit r l k m w =
       further = λ H w′ word levels e. w (accepted-step H w′ (lent r word levels) e .usable .works);
     }
 
+-- a session ends within its round limit
 pub ends-within : {limit : ℕ} {r : Record} {t : ℕ} → Ran limit r t → Within limit r t
 ends-within (opened H S xs h e q) =
     rw (accepted-opens H S xs h e)

@@ -1,4 +1,6 @@
--- The flipping rule for iterative voting in single rounds: stepping ends as the whole call does, and that obeys the rule. Assumes nothing.
+-- The flipping rule for iterative voting in single rounds: stepping ends as the whole call does, and that obeys the rule.
+--   stepping-rule   == stepping obeys the flipping rule for iterative voting
+-- Assumes nothing.
 use mathlib.Core.Path.{sym, ap, _∙_}
 use mathlib.Core.List.{List}
 use Prim.Native.Nat.{ℕ}
@@ -13,6 +15,7 @@ use Rattle.session_asking.specs.Paper.Asked.{Held, openVerdict}
 use Rattle.session.specs.Paper.SteppingRule.{SteppingRule}
 use Rattle.session.proofs.Stepping.{stepping-is-whole, steps-rounds}
 
+-- stepping obeys the flipping rule for iterative voting
 pub stepping-rule : (H : Matrix) (S : Setting) (xs : List Float) (h : Held) → SteppingRule H S xs h
 unfolding openVerdict
 stepping-rule H S xs h c e near time =

@@ -1,8 +1,8 @@
 -- What opening and a step ask, part by part.
---   spare-front                        == the spare places of a word lie in its own bytes
---   says-known, says-lent              == a step's first part refuses; else its second part speaks
---   says-word, says-beyond             == the second part: the received word is refused; else refusal 23 speaks
---   says-open-matrix, says-samples     == of opening, the matrix is refused; else setting and samples speak
+--   spare-front                      == the spare places of a word lie in its own bytes
+--   says-known, says-lent            == a step's first part refuses; else its second part speaks
+--   says-word, says-beyond           == the second part: the received word is refused; else refusal 23 speaks
+--   says-open-matrix, says-samples   == of opening, the matrix is refused; else setting and samples speak
 -- Assumes nothing.
 use mathlib.Core.Path.{_≡_, refl, sym, ap, _∙_}
 use mathlib.Core.Bool.{Bool, true, false}
@@ -30,6 +30,7 @@ bit-front : (w : List ℕ) (k j : ℕ) → j / 8 < k → bitAt (take k w) j ≡ 
 unfolding bitAt
 bit-front w k j l = ap (λ (x : ℕ). x / 2 ^ (7 - j % 8) % 2) (getD-take k w (j / 8) 0 l)
 
+-- the spare places of a word lie in its own bytes
 pub spare-front : (n : ℕ) (w : List ℕ) → spareSet n (take (bytesFor n) w) ≡ spareSet n w
 unfolding spareSet
 spare-front n w =
@@ -72,6 +73,7 @@ module _ (H : Matrix) (w : List ℕ) (h : Held) where
 -- ---- what opening asks
 
 module _ (H : Matrix) (S : Setting) (xs : List Float) (bytes room : ℕ) where
+  -- of opening, the matrix is refused; else setting and samples speak
   pub says-open-matrix : (k x : ℕ) → checkOf H ≡ refused k x → refused k x ≡ iterativeVerdict H S xs bytes room
   unfolding iterativeVerdict
   says-open-matrix k x e = rw e

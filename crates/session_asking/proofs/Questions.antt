@@ -1,4 +1,12 @@
--- Opening and a step are accepted exactly where what they ask holds (specs/Paper/PlainCalls.antt), both ways. Assumes nothing.
+-- Opening and a step are accepted exactly where what they ask holds (specs/Paper/PlainCalls.antt), both ways.
+--   usable-is                      == a record that passes refusals 20 and 21 is usable
+--   accepted-step, step-accepted   == a step is accepted exactly where what it asks holds
+--   finite-first                   == where every sample is finite, the search for one that is not comes to the end
+--   accepted-open, open-accepted   == an opening is accepted exactly where what it asks holds
+--   far-found                      == a level beyond the largest is found
+--   far-more                       == past one that is not beyond the search goes on
+--   known-usable, known-matrix     == where a step's first part accepts, the record is usable and the matrix accepted
+-- Assumes nothing.
 use mathlib.Core.Path.{_≡_, refl, sym, _∙_}
 use mathlib.Core.Bool.{Bool, true, false, not, _&&_, _||_}
 use mathlib.Core.List.{List}
@@ -65,6 +73,7 @@ is-usable r u = (
 )
 
 module _ (H : Matrix) (w : List ℕ) (h : Held) where
+  -- a step is accepted exactly where what it asks holds
   pub accepted-step : stepVerdict H w h ≡ accepted → Steppable H w h
   unfolding stepVerdict otherSizes beyond
   accepted-step e =
@@ -125,6 +134,7 @@ finite-first xs h = first-none (notFinite xs) (length xs) (λ j l. passes (finit
     passes false t = absurd t
 
 module _ (H : Matrix) (S : Setting) (xs : List Float) (h : Held) where
+  -- an opening is accepted exactly where what it asks holds
   pub accepted-open : openVerdict H S xs h ≡ accepted → Openable H S xs h
   unfolding openVerdict
   accepted-open e =
@@ -173,6 +183,7 @@ module _ (H : Matrix) (r : Record) (e : knownVerdict H r ≡ accepted) where
   unfolding knownVerdict
   parts = passed-on (record-part r) (matrix-part H r) e
 
+  -- where a step's first part accepts, the record is usable and the matrix accepted
   pub known-usable : Usable r
   known-usable =
       let p = passed-on (refuseWhen 20 (unusable r) accepted) (refuseWhen 21 (ended r) accepted) (parts .0) in

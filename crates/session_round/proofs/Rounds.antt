@@ -46,9 +46,11 @@ module _ (H : Matrix) (L : ℕ) (word : List ℕ) (levels : List ℤ) (p : Round
     holds-next : Holds (H .n) L bits′ kept′ (roundOf H L (stateIn word levels))
     holds-next = round-holds H (p .matrix) L (stateIn word levels) votes bits kept bits′ kept′ holds-lent (t .each) m
 
+    -- the bits after the round are a word
     pub next-word : Word H (at bits′)
     next-word = holds-word H L bits′ kept′ (roundOf H L (stateIn word levels)) holds-next
 
+    -- and its levels can be written back
     pub next-restorable : Restorable (H .n) L kept′ levels
     next-restorable =
         record {
@@ -58,6 +60,7 @@ module _ (H : Matrix) (L : ℕ) (word : List ℕ) (levels : List ℤ) (p : Round
           within = λ j l. omega (arith, holds-next .levels j l, biased-le L (roundOf H L (stateIn word levels) .R j) (holds-next .within j l));
         }
 
+    -- what is packed, stored and counted of them is what the round leaves
     pub round-left : (word′ : List ℕ) (levels′ : List ℤ) (f′ : ℕ) → word′ ≡ over (pack (H .n) (at bits′)) word
         → levels′ ≡ over (listed (H .n) (unbiased L kept′)) levels → f′ ≡ failing H (at bits′) → RoundLeft H L word word′ levels levels′ f′
     unfolding stateOf

@@ -1,4 +1,8 @@
--- Laws of lists of places: one place more is looked at, and a sum over a list of places. Assumes nothing.
+-- Laws of lists of places: one place more is looked at, and a sum over a list of places.
+--   places-none   == no place is looked at yet
+--   places-step   == one place more is looked at
+--   places-sum    == a sum over a list of places is one over all places
+-- Assumes nothing.
 use mathlib.Core.Path.{_≡_, refl, sym, ap, _∙_}
 use mathlib.Core.List.{List}
 use Prim.Native.Nat.{ℕ, zero, suc, _+_, _*_, _<_}

@@ -1,4 +1,14 @@
--- Laws of row parities: a row of an accepted matrix is a part of the list, and the parity of the bits there is its check. Assumes nothing.
+-- Laws of row parities: a row of an accepted matrix is a part of the list, and the parity of the bits there is its check.
+--   xor-bits      == of bits, `^` is the sum's parity
+--   parity-step   == one bit more in a parity
+--   row-part      == a row is a part of the list
+--   checks        == a word has bits at every row
+--   row-fails     == the parity of the bits at a row is its check
+--   row-is        == the parity as it is computed is that of the row
+--   row-bit       == the parity of a row is a bit
+--   count-step    == one check more is counted
+--   count-most    == the count is at most the number of rows counted
+-- Assumes nothing.
 use mathlib.Core.Path.{_≡_, refl, _∙_}
 use mathlib.Core.List.{List}
 use Prim.Native.Nat.{ℕ, zero, suc, _+_, _*_, _%_, _≤_, _<_}
@@ -62,6 +72,7 @@ pub row-is : (l : List ℕ) (rho : ℕ) (z : ℕ → ℕ) (i x : ℕ) → x ≡ 
 unfolding rowFails
 row-is l rho z i x e = e
 
+-- the parity of a row is a bit
 pub row-bit : (l : List ℕ) (rho : ℕ) (z : ℕ → ℕ) (i : ℕ) → rowFails l rho z i < 2
 unfolding rowFails
 row-bit l rho z i = omega arith
@@ -72,6 +83,7 @@ pub count-step : (l : List ℕ) (rho : ℕ) (z : ℕ → ℕ) (i f x : ℕ) → 
 unfolding sumBelow
 count-step l rho z i f x e r = rw (add-one i) (omega arith)
 
+-- the count is at most the number of rows counted
 pub count-most : (l : List ℕ) (rho : ℕ) (z : ℕ → ℕ) (i : ℕ) → sumBelow i (rowFails l rho z) ≤ i
 count-most l rho z i =
     omega (arith, sum-bound i 1 {f = rowFails l rho z} (λ k h. le-of-suc-le-suc (row-bit l rho z k)))

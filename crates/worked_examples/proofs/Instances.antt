@@ -68,6 +68,7 @@ readme-accepted : iterativeVerdict codeA (readmeSetting 43) readmeBlock 1 7 ≡ 
 unfolding codeA readmeSetting readmeBlock seven iterativeVerdict samplesVerdict settingFits stepFits notFinite ofBits ofFields odd lt le checkOf listOf sizesFit badEntry badWeight overlapping common weight has entry anyBelow first sumBelow same
 readme-accepted = refl
 
+-- with a limit of 43 iterative voting recovers the zero word from the README's block
 pub readme-block : ReadmeBlock 43
 unfolding codeA readmeSetting made
 readme-block =
