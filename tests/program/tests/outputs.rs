@@ -2,6 +2,7 @@
 
 use generator::{codes, example, inputs, noise, settings, stream, Codewords, Random};
 use program::{assert_same, Program};
+use reference::Matrix;
 
 /// Whole runs, refused heads and inputs by chance: more than two hundred.
 fn compare_all(inputs: Vec<inputs::Named>, least: usize) {
@@ -24,6 +25,25 @@ fn p6() {
     let input = stream::input(&codes::code_a().matrix, &setting, &[samples]);
     let expected = b"block end rounds failing changed word\n0 decoded 1 0 1 00\n";
     assert_same("P6", &program.printed(&input), expected);
+}
+
+/// P9's matrix: its two rows share two columns.
+#[test]
+fn rows_that_overlap() {
+    let Some(program) = Program::find() else {
+        return;
+    };
+    let matrix = Matrix {
+        n: 2,
+        m: 2,
+        rho: 2,
+        gamma: 2,
+        list: vec![0, 1, 0, 1],
+    };
+    let setting = settings::level_step(3, 5, 0.5);
+    let input = stream::input(&matrix, &setting, &[vec![1.0, 1.0]]);
+    let expected = b"block end rounds failing changed word\nrefused 5 0\n";
+    assert_same("P9", &program.printed(&input), expected);
 }
 
 #[test]
