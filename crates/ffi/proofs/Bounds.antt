@@ -48,8 +48,7 @@ rounds-le H z = either (eqb (failing H z) 0)
 pub failing-small : (H : Matrix) (w : List ℕ) → Small (failingOf H w)
 unfolding failingOf failingVerdict
 failing-small H w =
-    after-small (checkOf H) _ _ (λ e.
-    record { rounds = omega arith; failing = omega (arith, failing-le H (bitAt w), accepted-is H e .sizes .m-most); changed = omega arith })
+    after-small (checkOf H) _ _ (λ e. omega (arith, failing-le H (bitAt w), accepted-is H e .sizes .m-most))
 
 -- one-step voting, on an accepted matrix and as a whole
 pub report-small : (H : Matrix) → Accepted H → (z : ℕ → ℕ) → Small (oneStepReport H z)

@@ -13,7 +13,7 @@ use lib.Dec.{eqb}
 use lib.IntN.{ℤ}
 use lib.Ieee.{Float}
 use lib.ListN.{length}
-use Rattle.answers.specs.Paper.Answers.{refusal, report, after, written}
+use Rattle.answers.specs.Paper.Answers.{refusal, acceptance, after, written}
 use Rattle.matrix.specs.Paper.Code.{Matrix}
 use Rattle.quantiser_levels.specs.Paper.Samples.{Setting, quantiseVerdict, levelsOf, hardWord}
 use Rattle.iterative_core.specs.Paper.Iterative.{iterativeVerdict, iterativeOf, iterativeWord, iterativeLevels}
@@ -24,7 +24,7 @@ use Rattle.ffi_codes.specs.Records.{recordCells, cellsOf, writtenBy}
 
 -- the quantiser: the code, the levels and the word, refused calls too
 pub record QuantisedAs (S : Setting) (xs : List Float) (r : ℕ) (ls ls′ : List ℤ) (w w′ : List ℕ) : Type 0 where
-  pub answer : r ≡ codeOf (after (quantiseVerdict S xs (length ls) (length w)) (report 0 0 0 0))
+  pub answer : r ≡ codeOf (after (quantiseVerdict S xs (length ls) (length w)) acceptance)
   pub levels : ls′ ≡ written (quantiseVerdict S xs (length ls) (length w)) (levelsOf S xs) ls
   pub word : w′ ≡ written (quantiseVerdict S xs (length ls) (length w)) (hardWord xs) w
 

@@ -11,7 +11,7 @@ use matrix_check::Shape;
 use quantiser_levels::Cell;
 ghost use mathlib.Core.Path.{_≡_};
 ghost use lib.ListN.{length};
-ghost use Rattle.answers.specs.Paper.Answers.{report, after, written};
+ghost use Rattle.answers.specs.Paper.Answers.{acceptance, after, written};
 ghost use Rattle.matrix.specs.Paper.Code.{matrix};
 ghost use Rattle.matrix.specs.Paper.Check.{checkOf};
 ghost use Rattle.syndrome.specs.Paper.Failing.{failingOf};
@@ -29,7 +29,7 @@ const NO_RECORD: u64 = 458752;
 // The matrix check.
 #[no_mangle]
 pub extern "C" fn mlgd_check(n: u16, m: u16, rho: u16, gamma: u16, list: &[u16]) -> u64
-    ensures { λ r. ⌜ r ≡ codeOf (after (checkOf (matrix n m rho gamma (now (list .entry)))) (report 0 0 0 0)) ⌝ }
+    ensures { λ r. ⌜ r ≡ codeOf (after (checkOf (matrix n m rho gamma (now (list .entry)))) acceptance) ⌝ }
 {
     let shape = Shape { n, m, rho, gamma };
     checked_code(matrix_check::check(shape, list))

@@ -5,11 +5,13 @@
 --   Room r f c == so do these three numbers
 -- Assumes nothing.
 use Prim.Native.Nat.{ℕ, _+_, _*_, _<_}
-use Rattle.answers.specs.Paper.Answers.{Said, refusal, report}
+use Rattle.answers.specs.Paper.Answers.{Said, refusal, report, count, acceptance}
 
 abbrev pub codeOf : Said → ℕ
 codeOf (refusal k x) = k * 65536 + x
 codeOf (report o r f c) = o + 4294967296 * (r + 256 * (f + 4096 * c))
+codeOf (count k) = 4294967296 * (256 * k)
+codeOf acceptance = 0
 
 pub record Room (r f c : ℕ) : Type 0 where
   pub rounds : r < 256
@@ -19,3 +21,5 @@ pub record Room (r f c : ℕ) : Type 0 where
 abbrev pub Small : Said → Type 0
 Small (refusal k x) = Unit {0}
 Small (report o r f c) = Room r f c
+Small (count k) = k < 4096
+Small acceptance = Unit {0}

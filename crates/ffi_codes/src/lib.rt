@@ -14,7 +14,7 @@ use session_record::state_of;
 ghost use mathlib.Core.Path.{_≡_};
 ghost use Prim.Native.Nat.{_+_, _*_, _≤_};
 ghost use lib.ListN.{length};
-ghost use Rattle.answers.specs.Paper.Answers.{report, after};
+ghost use Rattle.answers.specs.Paper.Answers.{report, acceptance, after};
 ghost use Rattle.answers.specs.Paper.Enums.{numberOf, placeOf, reportOf, saidOf, verdictOf, countedOf};
 ghost use Rattle.counting.specs.Paper.Lists.{over};
 ghost use Rattle.quantiser_settings.specs.Paper.Settings.{settingOf};
@@ -71,7 +71,7 @@ pub fn counted_code(a: Counted) -> u64
 
 // The answer of a check: 0 where it accepts.
 pub fn checked_code(a: Checked) -> u64
-    ensures { λ r. ⌜ r ≡ codeOf (after (verdictOf a) (report 0 0 0 0)) ⌝ }
+    ensures { λ r. ⌜ r ≡ codeOf (after (verdictOf a) acceptance) ⌝ }
 {
     match a {
         Checked::Accepted => 0,

@@ -4,7 +4,7 @@
 --   verdictOf, reportOf, saidOf, countedOf   == of a check, a report, a decoding call, a count of failing checks
 -- Assumes nothing.
 use Prim.Native.Nat.{ℕ}
-use Rattle.answers.specs.Paper.Answers.{Verdict, accepted, refused, Said, refusal, report}
+use Rattle.answers.specs.Paper.Answers.{Verdict, accepted, refused, Said, refusal, report, count}
 use Rattle.answers.specs.declared.Outcome.{Outcome}
 use Rattle.answers.specs.declared.Outcome.the-variants.{Decoded, Failed, Working}
 use Rattle.answers.specs.declared.Report.{Report}
@@ -67,7 +67,7 @@ abbrev pub saidOf : Answer → Said
 saidOf (answer.Done p) = reportOf p
 saidOf (answer.Refused f) = refusal (numberOf f) (placeOf f)
 
--- a count says its number as the failing checks of a report, all else 0
+-- a count says its number, or the refusal's number and place
 abbrev pub countedOf : Counted → Said
-countedOf (counted.Failing k) = report 0 0 k 0
+countedOf (counted.Failing k) = count k
 countedOf (counted.Refused f) = refusal (numberOf f) (placeOf f)

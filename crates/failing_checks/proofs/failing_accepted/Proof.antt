@@ -2,7 +2,7 @@
 use borrow.Author.Needs.{needs}
 use Prim.Native.Nat.{ℕ}
 use mathlib.Core.Path.{sym, ap, _∙_}
-use Rattle.answers.specs.Paper.Answers.{report}
+use Rattle.answers.specs.Paper.Answers.{count}
 use Rattle.answers.specs.Paper.Enums.{verdictOf, numberOf, placeOf}
 use Rattle.packed_word.specs.Paper.Packed.{bytesFor}
 use Rattle.matrix.specs.Paper.Shapes.{matrixOf}
@@ -42,7 +42,7 @@ returns c =
     let k = c .before .before .before in
     let s = asked k in
     let H = matrixOf (s .args .shape) (s .args .list .now) in
-    ap (λ (k : ℕ). report 0 0 k 0) (c .count .ensures)
+    ap (λ (k : ℕ). count k) (c .count .ensures)
     ∙ failing-says H (s .args .received .now) (is-accepted H (s .pre)) (sym (k .ask-word .ensures) ∙ ap verdictOf (c .before .enum-told .given .1))
 
 returns-2 : tie.Need-returns-2

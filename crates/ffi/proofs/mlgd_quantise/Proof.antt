@@ -1,6 +1,6 @@
 -- `ffi::mlgd_quantise` meets its contract: what the quantiser answers and writes for the setting that stands for the lent one. Assumes nothing.
 use mathlib.Core.Path.{ap, _∙_}
-use Rattle.answers.specs.Paper.Answers.{Verdict, after, report}
+use Rattle.answers.specs.Paper.Answers.{Verdict, after, acceptance}
 use Rattle.answers.specs.Paper.Enums.{verdictOf}
 use Rattle.quantiser_settings.specs.Paper.Settings.{settingOf}
 use Rattle.ffi_codes.specs.Codes.{codeOf}
@@ -33,7 +33,7 @@ returns c =
     let q = quantise-alike (settingBy (a .bits) (a .limit) (a .kind) (a .step)) (settingOf (t .result)) (t .ensures) (a .samples .now) (verdictOf (r .result))
     (a .levels .now) (r .last .1 .1 .0) (a .word .now) (r .last .1 .1 .1 .0) (r .ensures) in
     record {
-      answer = c .checked-code .ensures ∙ ap (λ (v : Verdict). codeOf (after v (report 0 0 0 0))) (q .answer);
+      answer = c .checked-code .ensures ∙ ap (λ (v : Verdict). codeOf (after v acceptance)) (q .answer);
       levels = q .levels;
       word = q .word;
     }

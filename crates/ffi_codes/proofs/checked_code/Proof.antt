@@ -2,7 +2,7 @@
 use mathlib.Core.Path.{sym, ap, _∙_}
 use Rattle.answers.specs.declared.Checked.{Checked}
 use Rattle.answers.specs.Paper.Enums.{verdictOf}
-use Rattle.answers.specs.Paper.Answers.{after, report}
+use Rattle.answers.specs.Paper.Answers.{after, acceptance}
 use Rattle.ffi_codes.specs.Codes.{codeOf}
 use borrow.Author.Needs.{needs}
 use Rattle.ffi_codes.proofs.checked_code.Statement.{statement}
@@ -21,7 +21,7 @@ returns : tie.Need-returns
 returns c = search needs
 
 returns-2 : tie.Need-returns-2
-returns-2 c = c .refusal-code .ensures ∙ ap (λ (a : Checked). codeOf (after (verdictOf a) (report 0 0 0 0))) (sym (c .before .before .a .given .1))
+returns-2 c = c .refusal-code .ensures ∙ ap (λ (a : Checked). codeOf (after (verdictOf a) acceptance)) (sym (c .before .before .a .given .1))
 
 pub checked-code-spec : {M : Type 1} → statement M
 checked-code-spec =

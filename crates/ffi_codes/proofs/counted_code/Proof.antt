@@ -1,7 +1,5 @@
 -- `ffi_codes::counted_code` meets its contract: each case by what it ensures. Assumes nothing.
-use Prim.Native.Nat.{ℕ, _+_, _*_}
-use native.Mathlib.Omega.{arith}
-use mathlib.Core.Path.{_≡_, sym, ap, _∙_}
+use mathlib.Core.Path.{sym, ap, _∙_}
 use Rattle.answers.specs.declared.Counted.{Counted}
 use Rattle.answers.specs.Paper.Enums.{countedOf}
 use Rattle.ffi_codes.specs.Codes.{codeOf}
@@ -28,10 +26,7 @@ refusal-code-requires : tie.Need-refusal-code-requires
 refusal-code-requires c κs = search needs
 
 returns : tie.Need-returns
-returns c =
-    let f : ℕ = c .before .a .given .0 .0 in
-    let e : 4294967296 * (256 * f) ≡ 0 + 4294967296 * (0 + 256 * (f + 4096 * 0)) = omega arith in
-    e ∙ ap (λ (a : Counted). codeOf (countedOf a)) (sym (c .before .a .given .1))
+returns c = ap (λ (a : Counted). codeOf (countedOf a)) (sym (c .before .a .given .1))
 
 returns-2 : tie.Need-returns-2
 returns-2 c = c .refusal-code .ensures ∙ ap (λ (a : Counted). codeOf (countedOf a)) (sym (c .before .before .a2 .given .1))

@@ -8,7 +8,7 @@
 -- Assumes nothing.
 use Prim.Native.Nat.{ℕ, zero, suc}
 use mathlib.Core.List.{List, [], _∷_, _++_}
-use Rattle.answers.specs.Paper.Answers.{Said, refusal, report}
+use Rattle.answers.specs.Paper.Answers.{Said, refusal, report, count, acceptance}
 use Rattle.program_numerals.specs.Paper.Numerals.{ascii, decimal, hex}
 
 -- "fields one space apart"
@@ -38,6 +38,9 @@ outcomeText (suc o) = ascii "failed"
 unfoldable pub saidText : Said → List ℕ → List ℕ
 saidText (report o r f c) w = line (outcomeText o ∷ decimal r ∷ decimal f ∷ decimal c ∷ hex w ∷ [])
 saidText (refusal k x) w = refusedText k x
+-- no block's line says these
+saidText (count k) w = []
+saidText acceptance w = []
 
 -- "block number from 0" comes first in the line of a block
 unfoldable pub blockText : ℕ → Said → List ℕ → List ℕ

@@ -6,7 +6,7 @@
 use Prim.Native.Nat.{ℕ}
 use mathlib.Core.List.{List}
 use lib.ListN.{length}
-use Rattle.answers.specs.Paper.Answers.{Verdict, accepted, refuseWhen, andThen, wrongLengths, Said, report, after}
+use Rattle.answers.specs.Paper.Answers.{Verdict, accepted, refuseWhen, andThen, wrongLengths, Said, count, after}
 use Rattle.packed_word.specs.Paper.Packed.{bitAt, bytesFor, spareSet}
 use Rattle.matrix.specs.Paper.Code.{Matrix, failing}
 use Rattle.matrix.specs.Paper.Check.{checkOf}
@@ -23,4 +23,4 @@ failingVerdict H w = andThen (checkOf H) (wordVerdict (H .n) w (bytesFor (H .n))
 
 -- "a count of failing checks in a received word"
 unfoldable pub failingOf : Matrix → List ℕ → Said
-failingOf H w = after (failingVerdict H w) (report 0 0 (failing H (bitAt w)) 0)
+failingOf H w = after (failingVerdict H w) (count (failing H (bitAt w)))

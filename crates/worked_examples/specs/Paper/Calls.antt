@@ -9,7 +9,7 @@ use mathlib.Core.List.{List, []}
 use lib.IntN.{ℤ}
 use lib.Ieee.{Float}
 use lib.ListN.{length}
-use Rattle.answers.specs.Paper.Answers.{Said, report, after, written}
+use Rattle.answers.specs.Paper.Answers.{Said, acceptance, after, written}
 use Rattle.matrix.specs.Paper.Code.{Matrix}
 use Rattle.matrix.specs.Paper.Check.{checkOf}
 use Rattle.syndrome.specs.Paper.Failing.{failingOf}
@@ -35,7 +35,7 @@ abbrev pub yields : Said → List ℕ → List ℤ → Yields
 yields s w l = record { said = s; word = w; levels = l }
 
 unfoldable pub made : Call → Yields
-made (checking H) = yields (after (checkOf H) (report 0 0 0 0)) [] []
+made (checking H) = yields (after (checkOf H) acceptance) [] []
 made (counting H w) = yields (failingOf H w) [] []
 made (voting H w old) = yields (oneStepOf H w (length old)) (written (oneStepVerdict H w (length old)) (oneStepWord H w) old) []
 made (decoding H S xs old levels) =

@@ -16,7 +16,7 @@ use Rattle.counting.specs.Paper.Sum.{sumBelow, same, unequal}
 use Rattle.counting.specs.Paper.Search.{anyBelow, first}
 use Rattle.counting.specs.Paper.Lists.{listed, over}
 use Rattle.counting.specs.Paper.Integers.{sumℤ}
-use Rattle.answers.specs.Paper.Answers.{Said, refusal, report}
+use Rattle.answers.specs.Paper.Answers.{Said, refusal, report, count, acceptance}
 use Rattle.packed_word.specs.Paper.Packed.{bitAt, packedByte, pack, spareSet, distance}
 use Rattle.matrix.specs.Paper.Code.{Matrix, matrix, entry, has, weight, common, fails, failing}
 use Rattle.matrix.specs.Paper.Check.{sizesFit, badEntry, badWeight, overlapping, listOf, checkOf}
@@ -74,7 +74,7 @@ table =
     -- P1: A, one-step, 2E: decoded, rounds 0, changed 0
     row (voting codeA (0x2e ∷ []) (0 ∷ [])) (report 0 0 0 0) (0x2e ∷ []) []
     -- P2: A, AE: three checks fail
-    ∷ row (counting codeA (0xae ∷ [])) (report 0 0 3 0) [] []
+    ∷ row (counting codeA (0xae ∷ [])) (count 3) [] []
     -- P2: A, one-step, AE: 2E, decoded, rounds 1, changed 1
     ∷ row (voting codeA (0xae ∷ []) (0 ∷ [])) (report 0 1 0 1) (0x2e ∷ []) []
     -- P3: A, one-step, C0: 2E, decoded, changed 6
@@ -92,7 +92,7 @@ table =
     -- P9: rows 0 1 and 0 1: refusal 5, place 0
     ∷ row (checking (matrix 2 2 2 2 (0 ∷ 1 ∷ 0 ∷ 1 ∷ []))) (refusal 5 0) [] []
     -- P10: rows 0 1, 1 2, 0 2: accepted
-    ∷ row (checking (matrix 3 3 2 2 (0 ∷ 1 ∷ 1 ∷ 2 ∷ 0 ∷ 2 ∷ []))) (report 0 0 0 0) [] []
+    ∷ row (checking (matrix 3 3 2 2 (0 ∷ 1 ∷ 1 ∷ 2 ∷ 0 ∷ 2 ∷ []))) acceptance [] []
     ∷ []
 
 unfoldable pub eachMade : List Row → List Yields
