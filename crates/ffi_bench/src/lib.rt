@@ -12,7 +12,7 @@ ghost use Rattle.majority_logic.specs.Paper.OneStep.{oneStepReport, oneStepWord
 ghost use Rattle.one_step_core.specs.Stepped.{VoteLent};
 ghost use Rattle.ffi_codes.specs.Codes.{codeOf};
 
-// One-step voting on an accepted matrix, a word and a buffer that suit it.
+// One-step voting on an accepted matrix, a word and a buffer that suit it. Only the benchmark calls it.
 #[no_mangle]
 pub extern "C" fn mlgd_one_step_accepted(
     n: u16,
