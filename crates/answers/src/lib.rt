@@ -1,5 +1,5 @@
 // What the calls answer: refusals, outcomes and reports by value.
-// specs/Paper/Enums.antt gives document 01's numbers for each case, and every contract speaks through it.
+// specs/Paper/Enums.antt gives document 01's numbers for each case, and the contracts of the calls speak through it.
 // The functions by which every call asks its refusals stand here too: a refusal where a test passes, one question after another,
 // and refusal 7's lengths.
 // Rests on nothing. Document 01: "Refused for the input", "Refused for the session", and what an answer holds ("Iterative voting").
@@ -131,7 +131,7 @@ pub fn and_then(first: Checked, next: Checked) -> Checked
 }
 
 // Refusal 7: what is lent has not the length wanted, or one of two written buffers is shorter than needed.
-// A buffer that the call does not write has the length 0 of 0 needed.
+// A buffer that the call does not write is given as just long enough.
 pub fn wrong_lengths(
     lent: usize,
     wanted: usize,

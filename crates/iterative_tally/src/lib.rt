@@ -1,5 +1,5 @@
 // The votes of a word that follows another one: the parities of the checks are kept, and only those of flipped bits are turned over.
-// Rests on `matrix_index`, `majority_votes` and `matrix_check`. Document 01: "Iterative voting", steps 2 and 5.
+// Rests on `matrix_index`, `majority_votes` and `matrix_check`. Document 01: "Iterative voting", steps 2 and 4.
 use matrix_check::Shape;
 ghost use Prim.Native.Nat.{_*_, _≤_, _<_};
 ghost use mathlib.Core.Path.{_≡_};

@@ -1,4 +1,4 @@
-// Refusal 5 in one pass: whether a pair of columns is met twice. Where none is, no two rows have two columns in common.
+// Refusal 5 in one pass: false says that no two rows have two columns in common. What true says is not proved: the exact search decides then.
 // Rests on `matrix`. Document 01: "Refused for the input" 5.
 use matrix::Shape;
 use matrix::column;
@@ -108,7 +108,7 @@ fn part_twice(shape: Shape, list: &[u16], part: usize) -> bool
     rows_twice(shape, list, part, &mut all)
 }
 
-// Whether a pair of columns is met twice. Where it is not, no two rows share two columns.
+// Looks for a pair of columns that is met twice: false says that no two rows share two columns.
 // The rows are taken in parts of 256: what is seen of one part stays in the nearest cache, of all rows it does not.
 // Only this repository's crates call it, after asking refusals 1 to 3.
 pub fn pair_twice(shape: Shape, list: &[u16]) -> bool

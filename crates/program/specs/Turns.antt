@@ -1,7 +1,7 @@
 -- The blocks as the run reads them: some at once, turn by turn.
 --   turnsText H S some t i bs   == what t turns print from number i on, `some i` blocks being read in the turn at number i
 --   Turning some                == each turn reads a block at least, and none past the 65,535th
--- proofs/Pieces.antt shows that the turns print `blocksText`, whichever pieces are read, and so those of `program_turns`. Assumes nothing.
+-- proofs/Turns.antt shows that the turns print `blocksText`, whichever pieces are read, and so those of `program_turns`. Assumes nothing.
 use Prim.Native.Nat.{ℕ, zero, suc, _+_, _*_, _≤_, _<_}
 use mathlib.Core.Bool.{cond}
 use mathlib.Core.List.{List, [], _++_}

@@ -40,7 +40,7 @@ andThen accepted w = w
 andThen (refused k x) w = refused k x
 
 -- refusal 7 by lengths: "samples not exactly n, a received word not exactly its bytes, or a written buffer shorter than needed".
--- Exactly `wanted` are lent; of two written buffers, `bytes` of `need` and `room` of `cells` (0 of 0 where nothing is written).
+-- Exactly `wanted` are lent; of two written buffers, `bytes` of `need` and `room` of `cells` (just enough where the call does not write it).
 abbrev pub wrongLengths : ℕ → ℕ → ℕ → ℕ → ℕ → ℕ → Bool
 wrongLengths lent wanted bytes need room cells = not (eqb lent wanted) || (ltb bytes need || ltb room cells)
 

@@ -56,7 +56,7 @@ abbrev pub DistinctReceived : Matrix → Type 0
 DistinctReceived H =
     (c c′ w w′ : List ℕ) → checkOf H ≡ accepted → WithinHalf H c w → WithinHalf H c′ w′ → (c ≡ c′ → ⊥) → w ≡ w′ → ⊥
 
--- "two different codewords differ in at least γ + 1 places"
+-- two different codewords differ in at least γ + 1 places
 abbrev pub FarApart : Matrix → Type 0
 FarApart H =
     (c c′ : List ℕ) → checkOf H ≡ accepted → Sent H c → Sent H c′ → (c ≡ c′ → ⊥) → H .gamma < distance (H .n) (bitAt c) (bitAt c′)

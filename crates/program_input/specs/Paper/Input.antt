@@ -13,6 +13,6 @@ use Rattle.quantiser_levels.specs.Paper.Samples.{Setting}
 unfoldable pub matrixIn : List ℕ → List ℕ → Matrix
 matrixIn bs list = matrix (number16 bs 0) (number16 bs 2) (number16 bs 4) (number16 bs 6) list
 
--- "one byte each for b, round limit and step kind; the step"
+-- "one byte each for b, round limit and step kind .. the step"
 unfoldable pub settingIn : List ℕ → Setting
 settingIn bs = record { bits = getD bs 0 0; limit = getD bs 1 0; kind = getD bs 2 0; step = float bs 3 }

@@ -1,7 +1,7 @@
 -- Settings, levels and hard bits. (Document 01, "Samples and levels"; refusals 6, 7 and 8.)
---   unitsOf x              == the whole number of 2 ^ -149 that the magnitude of x is
---   negative x           == x is below 0
---   Setting               == a setting: bit width, round limit, kind of step (0 level step, 1 full scale) and step
+--   unitsOf x            == the whole number of 2 ^ -149 that the magnitude of x is
+--   negative x           == x has a minus sign, that of -0 too
+--   Setting              == a setting: bit width, round limit, kind of step (0 level step, 1 full scale) and step
 --   mostBits, mostLevel  == the widest level, and the largest of that width
 --   rangesFit b limit    == the bit width and the round limit are in range
 --   stepFits d, settingFits S   == the step, the setting is in range

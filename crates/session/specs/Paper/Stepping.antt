@@ -40,7 +40,7 @@ pub record EndsAlike (H : Matrix) (S : Setting) (xs : List Float) (h : Held) : T
 abbrev pub SteppingIsWhole : Matrix → Setting → List Float → Held → Type 0
 SteppingIsWhole H S xs h = openVerdict H S xs h ≡ accepted → EndsAlike H S xs h
 
--- "working: k below the limit and a failing check; decoded: none; failed: k at the limit and one"
+-- working: k below the limit and a failing check; decoded: none; failed: k at the limit and one
 pub record Means (H : Matrix) (r : Record) (z : ℕ → ℕ) : Type 0 where
   pub if-working : r .state ≡ working → (r .k < r .limit) × (0 < failing H z)
   pub if-decoded : r .state ≡ decoded → failing H z ≡ 0

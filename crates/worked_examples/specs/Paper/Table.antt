@@ -37,7 +37,7 @@ codeA = matrix 7 7 3 3 (0 ∷ 1 ∷ 3 ∷ 1 ∷ 2 ∷ 4 ∷ 2 ∷ 3 ∷ 5 ∷ 3 
 unfoldable pub codeB : Matrix
 codeB = matrix 9 6 3 2 (0 ∷ 1 ∷ 2 ∷ 3 ∷ 4 ∷ 5 ∷ 6 ∷ 7 ∷ 8 ∷ 0 ∷ 3 ∷ 6 ∷ 1 ∷ 4 ∷ 7 ∷ 2 ∷ 5 ∷ 8 ∷ [])
 
--- P6's setting: level step 0.5, b = 3; and its samples: the first 0.5, six of -1
+-- P6's setting with any limit: level step 0.5, b = 3
 unfoldable pub setting : ℕ → Setting
 setting limit = record { bits = 3; limit = limit; kind = 0; step = ofBits binary32 0x3f00_0000 }
 
