@@ -14,7 +14,7 @@ MAP ?= $(basename $(RESULTS)).svg
 # Decodes SAMPLES by MATRIX and SETTING, the example block set without them, into the table RESULTS and its picture MAP.
 # Blocks that stay open (status 1) are no fault.
 run: tools
-	@echo "The first run proves and builds all it needs, which takes about three minutes (build/run.log tells how far it is); later runs take seconds."
+	@echo "The first run proves and builds all it needs, which takes three to four minutes (build/run.log tells how far it is); later runs take seconds."
 	@mkdir -p build && rt check decode ffi_codes session_open session_step one_step failing_checks >build/run.log || { cat build/run.log; exit 1; }
 	@$(MAKE) --no-print-directory target/staticlib/libffi.a mlgd >>build/run.log || { cat build/run.log; exit 1; }
 	build/release/mlgd decode --matrix "$(MATRIX)" --setting "$(SETTING)" --samples "$(SAMPLES)" --out "$(RESULTS)" || test $$? -eq 1
@@ -39,9 +39,10 @@ fuzz: tools staticlib decode
 prove: tools
 	rt check
 
-# The exported functions as a static library for Rust and C.
+# The exported functions as a static library for Rust and C, also under a name that no system library has: build/libmlgd.a.
 staticlib:
 	rt staticlib ffi
+	@mkdir -p build && cp target/staticlib/libffi.a build/libmlgd.a
 
 # The same, unless it is there already.
 target/staticlib/libffi.a: $(wildcard crates/*/src/*.rt)
