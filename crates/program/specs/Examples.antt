@@ -92,5 +92,10 @@ eachWanted (r ∷ rs) = (heading ++ ascii (r .text)) ∷ eachWanted rs
 
 -- the written definitions print it
 pub every-run : eachMade table ≡ eachWanted table
-unfolding table eachMade eachWanted inputA blockP6 blockInfinite blockP8 low16 low32 printed sizedText restText blocksText chunkText blockLines blockAt blockLine blockSaid blockVerdict settingVerdict openingVerdict number16 number32 float matrixIn entryIn entriesIn settingIn sampleIn samplesIn digit digitsWithin decimal hex line heading shortText refusedText saidText blockText checkOf listOf sizesFit badEntry badWeight overlapping failing fails common weight has entry distance pack packedByte bitAt listed over anyBelow first sumBelow same unequal sumℤ stepFits settingFits nearestWhole magnitude levelOf hardOf hardBit notFinite others extrinsic levelAfter roundOf endOf startOf changedBits changedIn endFrom reportAt iterativeWord ofBits ofFields odd lt le eq
+unfolding table eachMade eachWanted inputA blockP6 blockInfinite blockP8 low16 low32 printed sizedText restText blocksText chunkText blockLines
+    blockAt blockLine blockSaid blockVerdict settingVerdict openingVerdict number16 number32 float matrixIn entryIn entriesIn settingIn sampleIn
+    samplesIn digit digitsWithin decimal hex line heading shortText refusedText saidText blockText checkOf listOf sizesFit badEntry badWeight
+    overlapping failing fails common weight has entry distance pack packedByte bitAt listed over anyBelow first sumBelow same unequal sumℤ stepFits
+    settingFits nearestWhole magnitude levelOf hardOf hardBit notFinite others extrinsic levelAfter roundOf endOf startOf changedBits changedIn
+    endFrom reportAt iterativeWord ofBits ofFields odd lt le eq
 every-run = refl

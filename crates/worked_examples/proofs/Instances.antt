@@ -65,7 +65,8 @@ readme-near = record { sent = sent-00; few = rw one-wrong (omega arith); firm = 
 
 -- no refusal applies to the call
 readme-accepted : iterativeVerdict codeA (readmeSetting 43) readmeBlock 1 7 ≡ accepted
-unfolding codeA readmeSetting readmeBlock seven iterativeVerdict samplesVerdict settingFits stepFits notFinite ofBits ofFields odd lt le checkOf listOf sizesFit badEntry badWeight overlapping common weight has entry anyBelow first sumBelow same
+unfolding codeA readmeSetting readmeBlock seven iterativeVerdict samplesVerdict settingFits stepFits notFinite ofBits ofFields odd lt le checkOf
+    listOf sizesFit badEntry badWeight overlapping common weight has entry anyBelow first sumBelow same
 readme-accepted = refl
 
 -- with a limit of 43 iterative voting recovers the zero word from the README's block

@@ -1,4 +1,5 @@
--- `matrix_meeting::pair_twice` meets its contract. The loop's invariant: no row of the parts passed has two columns in common with a later row. Assumes nothing.
+-- `matrix_meeting::pair_twice` meets its contract.
+-- The loop's invariant: no row of the parts passed has two columns in common with a later row. Assumes nothing.
 use Prim.Native.Nat.{ℕ, _-_, _≤_, _<_}
 use native.Mathlib.Omega.{arith}
 use borrow.Author.Count.{below-more}

@@ -68,7 +68,10 @@ bounds =
 
 -- the written definitions yield each row
 pub all-bounds : eachMade bounds ≡ eachWanted bounds
-unfolding bounds strong codeC three eachMade eachWanted made codeA setting iterativeOf iterativeVerdict samplesVerdict iterativeWord iterativeLevels reportAt endFrom changedBits changedIn startOf endOf roundOf levelAfter extrinsic others settingFits stepFits notFinite hardBit hardOf levelOf magnitude nearestWhole sumℤ ofBits ofFields odd lt le checkOf listOf sizesFit badEntry badWeight overlapping failing fails common weight has entry distance spareSet pack packedByte bitAt listed over anyBelow first sumBelow same unequal
+unfolding bounds strong codeC three eachMade eachWanted made codeA setting iterativeOf iterativeVerdict samplesVerdict iterativeWord iterativeLevels
+    reportAt endFrom changedBits changedIn startOf endOf roundOf levelAfter extrinsic others settingFits stepFits notFinite hardBit hardOf levelOf
+    magnitude nearestWhole sumℤ ofBits ofFields odd lt le checkOf listOf sizesFit badEntry badWeight overlapping failing fails common weight has entry
+    distance spareSet pack packedByte bitAt listed over anyBelow first sumBelow same unequal
 all-bounds = refl
 
 -- L / delta + 1: with L = 3 delta is 3 for A and 2 for C; with L = 127 it is 3 for A

@@ -105,5 +105,9 @@ eachWanted (r ∷ rs) = r .wanted ∷ eachWanted rs
 
 -- the written definitions yield each row
 pub all-rows : eachMade table ≡ eachWanted table
-unfolding table eachMade eachWanted made codeA codeB setting seven iterativeOf iterativeVerdict samplesVerdict iterativeWord iterativeLevels reportAt endFrom changedBits changedIn startOf endOf roundOf levelAfter extrinsic others settingFits stepFits notFinite hardBit hardOf levelOf magnitude nearestWhole sumℤ ofBits ofFields odd lt le checkOf listOf sizesFit badEntry badWeight overlapping failingOf failingVerdict wordVerdict oneStepOf oneStepVerdict oneStepWord oneStepReport stepWord stepRounds flipped votes failing fails common weight has entry distance spareSet pack packedByte bitAt listed over anyBelow first sumBelow same unequal
+unfolding table eachMade eachWanted made codeA codeB setting seven iterativeOf iterativeVerdict samplesVerdict iterativeWord iterativeLevels reportAt
+    endFrom changedBits changedIn startOf endOf roundOf levelAfter extrinsic others settingFits stepFits notFinite hardBit hardOf levelOf magnitude
+    nearestWhole sumℤ ofBits ofFields odd lt le checkOf listOf sizesFit badEntry badWeight overlapping failingOf failingVerdict wordVerdict oneStepOf
+    oneStepVerdict oneStepWord oneStepReport stepWord stepRounds flipped votes failing fails common weight has entry distance spareSet pack packedByte
+    bitAt listed over anyBelow first sumBelow same unequal
 all-rows = refl
