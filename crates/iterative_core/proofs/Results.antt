@@ -38,7 +38,7 @@ use Rattle.iterative_core.specs.Paper.Iterative.{startOf, changedBits, e
 use Rattle.iterative_core.proofs.Changes.{changed-all}
 use Rattle.iterative_rounds.specs.Paper.Ends.{stateAt}
 use Rattle.iterative_rounds.specs.Alike.{Alike, AlikeEnds}
-use Rattle.iterative_rounds.specs.Runs.{stateOf, Holds, Ready, Stopped, Ran}
+use Rattle.iterative_rounds.specs.Runs.{stateOf, Holds, Ready, Stopped, RunLeft}
 use Rattle.iterative_core.specs.Calls.{CallLent, Started, Decoded}
 use Rattle.iterative_rounds.proofs.Ends.{levels-bound, end-state, ends-alike, failing-alike-end}
 use Rattle.iterative_rounds.proofs.States.{holds-word}
@@ -75,9 +75,9 @@ module _ (S : Setting) (xs : List Float) (ls ls′ : List ℤ) where
       }
 
   -- the levels kept as numbers and the hard bits are those of a started decoder
-  pub filled-started : (z₀ z x : List ℕ) → Filled S xs ls ls′ z₀ z → Biased (length xs) (largest (S .bits)) ls′ x → Started S xs ls ls′ z x
+  pub filled-started : (z₀ z x₀ x : List ℕ) → Filled S xs ls ls′ z₀ z → Biased (length xs) (largest (S .bits)) ls′ x₀ x → Started S xs ls ls′ z₀ z x₀ x
   unfolding startOf
-  filled-started z₀ z x f b =
+  filled-started z₀ z x₀ x f b =
       record {
         levels = f .levels;
         holds = record {
@@ -88,6 +88,8 @@ module _ (S : Setting) (xs : List Float) (ls ls′ : List ℤ) where
           levels = λ j l. b .each j l ∙ ap (biased (largest (S .bits))) (level-at (f .levels) j l);
           within = λ j l. level-bound S (getD xs j nan);
         };
+        rest-word = f .rest;
+        rest-levels = b .rest;
       }
 
 -- ---- the levels of every state, from samples on
@@ -129,7 +131,7 @@ packed-room n z old new e h = omega (arith, ap length e, length-over (pack n z) 
 -- ---- the whole of an accepted call
 
 module _ (H : Matrix) (S : Setting) (xs : List Float) (w : List ℕ) (ls : List ℤ) (lent : CallLent H S xs w ls) (ls₁ : List ℤ) (z x : List ℕ)
-    (start : Started S xs ls ls₁ z x) where
+    {z₀ x₀ : List ℕ} (start : Started S xs ls ls₁ z₀ z x₀ x) where
   -- the arrays hold the start
   holds-start : Holds (H .n) (largest (S .bits)) z x (startOf S xs)
   holds-start = rw (lent .samples) at (start .holds)
@@ -149,7 +151,7 @@ module _ (H : Matrix) (S : Setting) (xs : List Float) (w : List ℕ) (ls : List 
   start-bits : (j : ℕ) → j < H .n → at z j < 2
   start-bits j l = omega (arith, holds-start .word j l, holds-start .bit j l)
 
-  module _ (z′ x′ : List ℕ) (k f : ℕ) (ran : Ran H (largest (S .bits)) (S .limit) z x z′ x′ k f) where
+  module _ (z′ x′ : List ℕ) (k f : ℕ) (ran : RunLeft H (largest (S .bits)) (S .limit) z x z′ x′ k f) where
     -- where the rounds stop is the end of the list from the samples
     stopped : Stopped H (largest (S .bits)) (endFrom H S xs) z′ x′ k f
     unfolding endFrom
@@ -160,9 +162,9 @@ module _ (H : Matrix) (S : Setting) (xs : List Float) (w : List ℕ) (ls : List 
         let e : AlikeEnds (H .n) (endOf H L 0 (S .limit) (stateOf L z x)) (endOf H L 0 (S .limit) (startOf S xs)) = ends-alike H L rows 0 (S .limit)
         (stateOf L z x) (startOf S xs) like in
         record {
-          holds = alike-holds (H .n) L z′ x′ _ _ (ran .holds) (e .last);
-          rounds = ran .rounds ∙ e .rounds;
-          fails = ran .fails ∙ failing-alike-end H L rows 0 (S .limit) (stateOf L z x) (startOf S xs) like;
+          holds = alike-holds (H .n) L z′ x′ _ _ (ran .stopped .holds) (e .last);
+          rounds = ran .stopped .rounds ∙ e .rounds;
+          fails = ran .stopped .fails ∙ failing-alike-end H L rows 0 (S .limit) (stateOf L z x) (startOf S xs) like;
         }
 
     stop-bits : (j : ℕ) → j < H .n → at z′ j < 2
@@ -229,8 +231,8 @@ module _ (H : Matrix) (S : Setting) (xs : List Float) (w : List ℕ) (ls : List 
 
 -- ---- the same for a caller that knows the largest level by another name
 
-module _ {H : Matrix} {S : Setting} {xs : List Float} {w : List ℕ} {ls ls₁ : List ℤ} {z x : List ℕ} {L : ℕ}
-    (lent : CallLent H S xs w ls) (start : Started S xs ls ls₁ z x) (e : L ≡ largest (S .bits)) where
+module _ {H : Matrix} {S : Setting} {xs : List Float} {w : List ℕ} {ls ls₁ : List ℤ} {z₀ z x₀ x : List ℕ} {L : ℕ}
+    (lent : CallLent H S xs w ls) (start : Started S xs ls ls₁ z₀ z x₀ x) (e : L ≡ largest (S .bits)) where
   -- the arrays of a call are ready for a round
   pub call-ready : Ready H L z x
   call-ready = rw e (start-ready H S xs w ls lent ls₁ z x start)
@@ -239,8 +241,8 @@ module _ {H : Matrix} {S : Setting} {xs : List Float} {w : List ℕ} {ls ls₁ :
   pub call-hard : (j : ℕ) → j < H .n → at z j < 2
   call-hard = start-bits H S xs w ls lent ls₁ z x start
 
-  module _ {z′ x′ : List ℕ} {k f : ℕ} (ran : Ran H L (S .limit) z x z′ x′ k f) where
-    by-largest : Ran H (largest (S .bits)) (S .limit) z x z′ x′ k f
+  module _ {z′ x′ : List ℕ} {k f : ℕ} (ran : RunLeft H L (S .limit) z x z′ x′ k f) where
+    by-largest : RunLeft H (largest (S .bits)) (S .limit) z x z′ x′ k f
     by-largest = rw e at ran
 
     -- the bits where the decoder stops are bits

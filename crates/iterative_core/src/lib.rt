@@ -67,7 +67,7 @@ fn start(
     kept: &mut [Kept; 1023],
 )
     requires { ⌜ Fillable (settingOf setting) (now samples) (now levels) × (middle ≡ largest (setting .bits)) × (length (now kept) ≡ 1023) ⌝ }
-    ensures { λ _. ⌜ Started (settingOf setting) (now (samples .entry)) (now (levels .entry)) (now (levels .exit)) (now (bits .exit)) (now (kept .exit)) ⌝ }
+    ensures { λ _. ⌜ Started (settingOf setting) (now (samples .entry)) (now (levels .entry)) (now (levels .exit)) (now (bits .entry)) (now (bits .exit)) (now (kept .entry)) (now (kept .exit)) ⌝ }
 {
     let n = samples.len();
     quantiser::fill(setting, samples, levels, bits);

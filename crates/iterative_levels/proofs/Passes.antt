@@ -70,16 +70,21 @@ module _ (v : List ℕ) (j gamma L ceiling : ℕ) (z₀ x₀ z x : List ℕ) (t 
       other-level i ne = elim (stored x j y i (omega (arith, t .long-levels))) [ inl p ↦ absurd (ne (p .1)) | inr p ↦ p .0 ]
 
 -- no level is kept as a number yet
-pub biased-none : (L : ℕ) (R : List ℤ) (x : List ℕ) → length x ≡ 1023 → Biased 0 L R x
-biased-none L R x l = record { long = l; each = λ i h. absurd (omega arith) }
+pub biased-none : (L : ℕ) (R : List ℤ) (x : List ℕ) → length x ≡ 1023 → Biased 0 L R x x
+biased-none L R x l = record { long = l; each = λ i h. absurd (omega arith); rest = λ i h. refl }
 
 -- one level more is kept as a number
-pub biased-step : (j L : ℕ) (R : List ℤ) (x : List ℕ) → Biased j L R x → j < 1023 → (y : ℕ) → y ≡ biased L (getD R j (pos 0)) → Biased (j + 1) L R (set x j y)
-biased-step j L R x t room y e =
+pub biased-step : (j L : ℕ) (R : List ℤ) (x₀ x : List ℕ) → Biased j L R x₀ x → j < 1023 → (y : ℕ) → y ≡ biased L (getD R j (pos 0))
+    → Biased (j + 1) L R x₀ (set x j y)
+biased-step j L R x₀ x t room y e =
     record {
       long = length-set x j y ∙ t .long;
       each = λ i h. elim (stored x j y i (omega (arith, t .long))) [
         | inl q ↦ q .0 ∙ e ∙ ap (λ (i : ℕ). biased L (getD R i (pos 0))) (sym (q .1))
         | inr q ↦ q .0 ∙ t .each i (less i j h (q .1))
+      ];
+      rest = λ i h. elim (stored x j y i (omega (arith, t .long))) [
+        | inl q ↦ absurd (omega (arith, q .1))
+        | inr q ↦ q .0 ∙ t .rest i (omega arith)
       ];
     }

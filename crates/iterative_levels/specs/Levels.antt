@@ -62,10 +62,11 @@ pub record Bounded (n L : ℕ) (R : List ℤ) : Type 0 where
   pub largest : L ≤ mostLevel
   pub within : (j : ℕ) → j < n → natAbs (getD R j (pos 0)) ≤ L
 
--- the first n cells keep the levels R
-pub record Biased (n L : ℕ) (R : List ℤ) (x : List ℕ) : Type 0 where
-  pub long : length x ≡ 1023
-  pub each : (j : ℕ) → j < n → at x j ≡ biased L (getD R j (pos 0))
+-- the array x becomes x′: its first n cells keep the levels R, the others stay
+pub record Biased (n L : ℕ) (R : List ℤ) (x x′ : List ℕ) : Type 0 where
+  pub long : length x′ ≡ 1023
+  pub each : (j : ℕ) → j < n → at x′ j ≡ biased L (getD R j (pos 0))
+  pub rest : (j : ℕ) → n ≤ j → at x′ j ≡ at x j
 
 -- the first n cells keep levels from -L to L, and there is room for them
 pub record Restorable (n L : ℕ) (x : List ℕ) (R : List ℤ) : Type 0 where

@@ -92,10 +92,10 @@ fn unbias_one(x: Kept, middle: Kept) -> Cell
     s as Cell
 }
 
-// Keeps the first n levels as R + L. Only this repository's crates call it, with levels from -L to L.
+// Keeps the first n levels as R + L; the cells past them stay. Only this repository's crates call it, with levels from -L to L.
 pub fn bias(levels: &[Cell], n: usize, middle: Kept, kept: &mut [Kept; 1023])
     requires { ⌜ Bounded n middle (now levels) × (length (now kept) ≡ 1023) ⌝ }
-    ensures { λ _. ⌜ Biased n middle (now (levels .entry)) (now (kept .exit)) ⌝ }
+    ensures { λ _. ⌜ Biased n middle (now (levels .entry)) (now (kept .entry)) (now (kept .exit)) ⌝ }
 {
     let mut j = 0;
     while j < n {

@@ -21,12 +21,13 @@ use Rattle.counting.proofs.Integers.{abs-sub}
 use Rattle.counting.specs.Places.{at}
 use Rattle.matrix.specs.Paper.Code.{Matrix, Word, failing}
 use Rattle.matrix.proofs.Rows.{failing-cong}
-use Rattle.iterative_tally.specs.Parities.{Retallied}
+use Rattle.majority_votes.specs.Tallies.{Tallied}
+use Rattle.iterative_tally.specs.Parities.{Parities, Retallied}
 use Rattle.iterative_rounds.specs.Paper.Rounds.{State}
 use Rattle.iterative_levels.specs.Levels.{biased, unbiased, Moved}
 use Rattle.iterative_rounds.specs.Paper.Ends.{stateAt}
 use Rattle.iterative_rounds.specs.Alike.{Alike}
-use Rattle.iterative_rounds.specs.Runs.{stateOf, Holds, Ready, Rounded, Ran}
+use Rattle.iterative_rounds.specs.Runs.{stateOf, Holds, Ready, Rounded, RunLeft}
 use Rattle.iterative_levels.proofs.Levels.{biased-le, biased-back, back-biased, above-middle-bit}
 use Rattle.iterative_rounds.proofs.Ends.{end-at}
 use Rattle.iterative_rounds.proofs.States.{holds-word, round-holds}
@@ -84,42 +85,60 @@ moved-word H v gamma L ceiling z x z′ x′ m j l = omega (arith, m .bits j l, 
 -- ---- the invariant
 
 -- what holds after k rounds of the loop
-pub record Going (H : Matrix) (L limit : ℕ) (s : State) (z x p v : List ℕ) (f k : ℕ) : Type 0 where
+pub record Going (H : Matrix) (L limit : ℕ) (z₀ x₀ z x p v : List ℕ) (f k : ℕ) : Type 0 where
   pub within : k ≤ limit
-  pub holds : Holds (H .n) L z x (stateAt H L s k)
-  pub tallied : Retallied H (at z) p v f
-  pub earlier : (t : ℕ) → t < k → 0 < failing H (stateAt H L s t .z)
+  pub holds : Holds (H .n) L z x (stateAt H L (stateOf L z₀ x₀) k)
+  pub parities : Parities H (at z) p
+  pub tallied : Tallied H (at z) v f
+  pub earlier : (t : ℕ) → t < k → 0 < failing H (stateAt H L (stateOf L z₀ x₀) t .z)
+  pub rest-word : (j : ℕ) → H .n ≤ j → at z j ≡ at z₀ j
+  pub rest-levels : (j : ℕ) → H .n ≤ j → at x j ≡ at x₀ j
 
 module _ (H : Matrix) (L limit : ℕ) (z₀ x₀ : List ℕ) (r : Ready H L z₀ x₀) where
   -- it holds before the first round
-  pub going-starts : (p v : List ℕ) (f : ℕ) → Retallied H (at z₀) p v f → Going H L limit (stateOf L z₀ x₀) z₀ x₀ p v f 0
+  pub going-starts : (p₀ p v : List ℕ) (f : ℕ) → Retallied H (at z₀) p₀ p v f → Going H L limit z₀ x₀ z₀ x₀ p v f 0
   unfolding stateAt
-  going-starts p v f t =
-      record { within = omega arith; holds = ready-holds H L z₀ x₀ r; tallied = t; earlier = λ i h. absurd (omega arith) }
+  going-starts p₀ p v f t =
+      record {
+        within = omega arith;
+        holds = ready-holds H L z₀ x₀ r;
+        parities = t .renewed .parities;
+        tallied = t .tallied;
+        earlier = λ i h. absurd (omega arith);
+        rest-word = λ j past. refl;
+        rest-levels = λ j past. refl;
+      }
 
-  module _ (z x p v : List ℕ) (f k : ℕ) (g : Going H L limit (stateOf L z₀ x₀) z x p v f k) where
+  module _ (z x p v : List ℕ) (f k : ℕ) (g : Going H L limit z₀ x₀ z x p v f k) where
     now-fails : f ≡ failing H (stateAt H L (stateOf L z₀ x₀) k .z)
-    now-fails = g .tallied .tallied .count ∙ failing-cong H (r .matrix .rows) (at z) (stateAt H L (stateOf L z₀ x₀) k .z) (g .holds .word)
+    now-fails = g .tallied .count ∙ failing-cong H (r .matrix .rows) (at z) (stateAt H L (stateOf L z₀ x₀) k .z) (g .holds .word)
 
     -- the arrays are then ready for a round
     pub going-ready : Ready H L z x
     going-ready = holds-ready H L z x (stateAt H L (stateOf L z₀ x₀) k) z₀ x₀ r (g .holds)
 
     -- the loop stops here
-    pub going-ends : (0 < f → k ≡ limit) → Ran H L limit z₀ x₀ z x k f
+    pub going-ends : (0 < f → k ≡ limit) → RunLeft H L limit z₀ x₀ z x k f
     going-ends stop =
-        rw (end-at H L limit k (stateOf L z₀ x₀) (g .within) (g .earlier) (λ h. stop (omega (arith, now-fails))))
-        (record { holds = g .holds; rounds = refl; fails = now-fails })
+        record {
+          stopped = rw (end-at H L limit k (stateOf L z₀ x₀) (g .within) (g .earlier) (λ h. stop (omega (arith, now-fails))))
+              (record { holds = g .holds; rounds = refl; fails = now-fails });
+          rest-word = g .rest-word;
+          rest-levels = g .rest-levels;
+        }
 
     -- one round more
-    pub going-step : 0 < f → k < limit → (z′ x′ p′ v′ : List ℕ) (f′ : ℕ) → Rounded H L v z x z′ x′ p′ v′ f′
-        → Going H L limit (stateOf L z₀ x₀) z′ x′ p′ v′ f′ (k + 1)
+    pub going-step : 0 < f → k < limit → (z′ x′ p′ v′ : List ℕ) (f′ : ℕ) → Rounded H L v z x z′ x′ p p′ v′ f′
+        → Going H L limit z₀ x₀ z′ x′ p′ v′ f′ (k + 1)
     unfolding stateAt
     going-step h l z′ x′ p′ v′ f′ t =
         rw (add-one k)
         (record {
           within = omega arith;
-          holds = round-holds H (r .matrix) L (stateAt H L (stateOf L z₀ x₀) k) v z x z′ x′ (g .holds) (g .tallied .tallied .each) (t .moved);
-          tallied = t .tallied;
+          holds = round-holds H (r .matrix) L (stateAt H L (stateOf L z₀ x₀) k) v z x z′ x′ (g .holds) (g .tallied .each) (t .moved);
+          parities = t .tallied .renewed .parities;
+          tallied = t .tallied .tallied;
           earlier = λ i q. elim (ℕ-discrete i k) [ yes e ↦ rw e (omega (arith, now-fails)) | no ne ↦ g .earlier i (omega arith) ];
+          rest-word = λ j past. t .moved .rest-word j past ∙ g .rest-word j past;
+          rest-levels = λ j past. t .moved .rest-levels j past ∙ g .rest-levels j past;
         })

@@ -4,7 +4,7 @@
 --   Ready H L z x        == what a round asks: an accepted matrix, bits, and levels in their range
 --   Rounded              == what a round leaves: the next bits and levels, their parities, their votes and their failing checks
 --   Stopped H L e ..     == the arrays hold the state of the end e, with its rounds and its failing checks
---   Ran                  == what the rounds from the arrays' state on leave
+--   RunLeft              == what the rounds from the arrays' state on leave; the cells past the bits stay
 -- Levels are kept as in Levels.antt. Assumes nothing.
 use mathlib.Core.Path.{_≡_}
 use mathlib.Core.List.{List}
@@ -38,10 +38,10 @@ pub record Ready (H : Matrix) (L : ℕ) (z x : List ℕ) : Type 0 where
   pub word : Word H (at z)
   pub within : (j : ℕ) → j < H .n → at x j ≤ 2 * L
 
--- bits z and levels x by the votes v, then the parities p′ and the votes v′ of the new bits, f of whose checks fail
-pub record Rounded (H : Matrix) (L : ℕ) (v z x z′ x′ p′ v′ : List ℕ) (f : ℕ) : Type 0 where
+-- bits z and levels x by the votes v, then parities p and votes become those of the new bits, f of whose checks fail
+pub record Rounded (H : Matrix) (L : ℕ) (v z x z′ x′ p p′ v′ : List ℕ) (f : ℕ) : Type 0 where
   pub moved : Moved v (H .n) (H .gamma) L (2 * L) z x z′ x′
-  pub tallied : Retallied H (at z′) p′ v′ f
+  pub tallied : Retallied H (at z′) p p′ v′ f
 
 -- the arrays hold the state at the end e, k and f are its rounds and its failing checks
 pub record Stopped (H : Matrix) (L : ℕ) (e : End) (z x : List ℕ) (k f : ℕ) : Type 0 where
@@ -49,5 +49,8 @@ pub record Stopped (H : Matrix) (L : ℕ) (e : End) (z x : List ℕ) (k f : ℕ)
   pub rounds : k ≡ e .k
   pub fails : f ≡ failing H (e .last .z)
 
-abbrev pub Ran : Matrix → ℕ → ℕ → List ℕ → List ℕ → List ℕ → List ℕ → ℕ → ℕ → Type 0
-Ran H L limit z x z′ x′ k f = Stopped H L (endOf H L 0 limit (stateOf L z x)) z′ x′ k f
+-- bits z and levels x become z′ and x′ in k rounds, after which f checks fail
+pub record RunLeft (H : Matrix) (L limit : ℕ) (z x z′ x′ : List ℕ) (k f : ℕ) : Type 0 where
+  pub stopped : Stopped H L (endOf H L 0 limit (stateOf L z x)) z′ x′ k f
+  pub rest-word : (j : ℕ) → H .n ≤ j → at z′ j ≡ at z j
+  pub rest-levels : (j : ℕ) → H .n ≤ j → at x′ j ≡ at x j

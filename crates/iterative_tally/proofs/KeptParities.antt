@@ -1,45 +1,33 @@
 -- What is turned over makes the parities of one word those of another, and they give its votes.
---   places-cong       == the places that one test lists are listed by a test that agrees with it below m
 --   columns           == the index of an accepted matrix has a part for each column
---   turned-parities   == the parities of one word turned over where the other differs are those of the other
+--   turned-renewed    == the parities of one word turned over where the other differs are those of the other
+--   rows-renewed      == the parities of all rows, written over an array of parities, are those of the word
 --   failing-places    == the rows that are listed by their parities are the failing checks
---   rows-none         == no row has its parity yet
---   rows-step         == one row more has its parity
---   rows-parities     == the parities of all rows are the checks of the matrix
 --   zero-parities     == the parities of a word of zeros are zeros
 --   zero-word         == a word of zeros is a word
 -- Assumes nothing.
 use mathlib.Core.Path.{_≡_, sym, ap, _∙_}
 use mathlib.Core.List.{List}
 use mathlib.Core.Logic.{inl, inr}
-use Prim.Native.Nat.{ℕ, _+_, _*_, _%_, _≤_, _<_}
-use native.Mathlib.Nat.{mul-comm, mul-le-mul-right}
+use Prim.Native.Nat.{ℕ, _+_, _*_, _-_, _%_, _≤_, _<_}
+use native.Mathlib.Nat.{mul-comm, mul-zero, mul-le-mul-right, eq-zero-or-pos}
 use native.Mathlib.Omega.{arith}
-use lib.ListN.{length, set, replicate, length-set, length-replicate}
+use lib.ListN.{replicate, length-replicate}
 use Rattle.counting.specs.Paper.Sum.{unequal}
+use Rattle.counting.specs.Paper.Lists.{listed, over}
 use Rattle.counting.specs.Places.{at, among}
-use Rattle.counting.proofs.Sums.{sum-cong, sum-zero}
-use Rattle.counting.proofs.Writes.{stored, zeros}
+use Rattle.counting.proofs.Sums.{sum-cong, sum-zero, same-ne}
+use Rattle.counting.proofs.Writes.{zeros, over-long, over-rest}
 use Rattle.matrix.specs.Paper.Code.{Matrix, entry, has, Word, fails}
 use Rattle.matrix.specs.Paper.PlainCheck.{Accepted}
 use Rattle.matrix.proofs.Rows.{few-entries, row-sum}
 use Rattle.matrix.proofs.Linear.{fails-differ}
-use Rattle.syndrome.specs.Places.{rowFails, Places}
-use Rattle.syndrome.proofs.Parity.{row-fails, row-bit}
+use Rattle.syndrome.specs.Places.{rowFails, Places, PlacesListed}
+use Rattle.syndrome.proofs.Parity.{parity-at, parity-bit}
+use Rattle.syndrome.proofs.Lists.{listed-cong}
 use Rattle.matrix_index.specs.Index.{Indexed}
-use Rattle.iterative_tally.specs.Parities.{Bits, ParitiesTurned, flips, Columns, RowParities, Parities}
+use Rattle.iterative_tally.specs.Parities.{Bits, ParitiesTurned, flips, Columns, Parities, Renewed}
 use Rattle.iterative_tally.proofs.Turns.{turned-bits}
-
--- places by a test that agrees below m
-pub places-cong : (f g : ℕ → ℕ) (m : ℕ) (l : List ℕ) (t : ℕ) → ((i : ℕ) → i < m → f i ≡ g i) → Places f m l t → Places g m l t
-places-cong f g m l t e p =
-    record {
-      long = p .long;
-      few = p .few;
-      below = p .below;
-      each = λ x h. p .each x h ∙ e x h;
-      total = p .total ∙ sum-cong m e;
-    }
 
 module _ (H : Matrix) (a : Accepted H) (x : List ℕ) (d : Indexed H x) where
   -- the index as parts
@@ -68,45 +56,50 @@ module _ (H : Matrix) (a : Accepted H) (x : List ℕ) (d : Indexed H x) where
         turns : (j : ℕ) → j < H .n → has H i j * change j ≡ change j * among x (j * H .gamma) (H .gamma) i
         turns j l = mul-comm (has H i j) (change j) ∙ ap (λ (y : ℕ). change j * y) (sym (d .each j i l h))
 
-    -- the parities of all checks
-    pub turned-parities : (p p′ : List ℕ) → Parities H z p → ParitiesTurned (flips x (H .gamma) z c (H .n)) p p′ → Parities H c p′
-    turned-parities p p′ k t =
+    -- a row past the checks stands at no column
+    none-past : (i : ℕ) → H .m ≤ i → flips x (H .gamma) z c (H .n) i ≡ 0
+    unfolding flips among
+    none-past i past =
+        sum-zero (H .n) (λ j l.
+        ap (λ (y : ℕ). unequal (z j) (c j) * y)
+        (sum-zero (H .gamma) (λ q k. same-ne (at x (j * H .gamma + q)) i (λ e. omega (arith, d .below j q l k))))
+        ∙ mul-zero (unequal (z j) (c j)))
+
+    -- the parities of all checks, and the cells past them
+    pub turned-renewed : (p p′ : List ℕ) → Parities H z p → ParitiesTurned (flips x (H .gamma) z c (H .n)) p p′ → Renewed H c p p′
+    turned-renewed p p′ k t =
         record {
-          bits = turned-bits (flips x (H .gamma) z c (H .n)) p p′ t;
-          each = λ i h. t .each i ∙ ap (λ (y : ℕ). (y + flips x (H .gamma) z c (H .n) i) % 2) (k .each i h) ∙ turned-fails i h;
+          parities = record {
+            bits = turned-bits (flips x (H .gamma) z c (H .n)) p p′ t;
+            each = λ i h. t .each i ∙ ap (λ (y : ℕ). (y + flips x (H .gamma) z c (H .n) i) % 2) (k .each i h) ∙ turned-fails i h;
+          };
+          rest = λ i past. omega (arith, t .each i, none-past i past, k .bits .bit i);
         }
 
--- the rows that are listed by their parities are the failing checks
-pub failing-places : (H : Matrix) (z : ℕ → ℕ) (p : List ℕ) → Parities H z p → (l : List ℕ) (t : ℕ) → Places (at p) (H .m) l t → Places (fails H z) (H .m) l t
-failing-places H z p k l t = places-cong (at p) (fails H z) (H .m) l t (k .each)
-
--- ---- all rows anew
-
--- no row has its parity yet
-pub rows-none : (l : List ℕ) (rho : ℕ) (z : ℕ → ℕ) (p : List ℕ) → Bits p → RowParities l 0 rho z p
-rows-none l rho z p b = record { bits = b; each = λ i h. absurd (omega arith) }
-
--- one row more
-pub rows-step : (l : List ℕ) (i rho : ℕ) (z : ℕ → ℕ) (p : List ℕ) (x : ℕ) → i < 1023 → x ≡ rowFails l rho z i → RowParities l i rho z p
-    → RowParities l (i + 1) rho z (set p i x)
-rows-step l i rho z p x h e r =
+-- the parities of all rows, written over an array of parities
+pub rows-renewed : (H : Matrix) (z : ℕ → ℕ) (p p′ : List ℕ) → H .m ≤ 1023 → Bits p → p′ ≡ over (listed (H .m) (rowFails (H .list) (H .rho) z)) p → Renewed H z p p′
+rows-renewed H z p p′ few b e =
     record {
-      bits = record {
-        long = length-set p i x ∙ r .bits .long;
-        bit = λ k. elim (stored p i x k in-p) [ inl q ↦ omega (arith, q .0, e, row-bit l rho z i) | inr q ↦ omega (arith, q .0, r .bits .bit k) ];
+      parities = record {
+        bits = record {
+          long = over-long (H .m) (rowFails (H .list) (H .rho) z) p p′ e (omega (arith, b .long)) ∙ b .long;
+          bit = λ i. elim (eq-zero-or-pos (H .m - i)) [
+            | inl past ↦ omega (arith, rest i (omega arith), b .bit i)
+            | inr h ↦ parity-bit H z p p′ e i (omega arith)
+          ];
+        };
+        each = parity-at H z p p′ e;
       };
-      each = λ k g. elim (stored p i x k in-p) [
-        | inl q ↦ q .0 ∙ e ∙ ap (rowFails l rho z) (sym (q .1))
-        | inr q ↦ q .0 ∙ r .each k (omega (arith, q .1))
-      ];
+      rest = rest;
     }
   where
-    in-p : i < length p
-    in-p = omega (arith, h, r .bits .long)
+    rest : (i : ℕ) → H .m ≤ i → at p′ i ≡ at p i
+    rest i past = over-rest (H .m) (rowFails (H .list) (H .rho) z) p p′ e 0 i past
 
--- they are the checks of the matrix
-pub rows-parities : (H : Matrix) (z : ℕ → ℕ) (p : List ℕ) → RowParities (H .list) (H .m) (H .rho) z p → Parities H z p
-rows-parities H z p r = record { bits = r .bits; each = λ i h. r .each i h ∙ ap (λ (f : ℕ → ℕ). f i) (row-fails H z) }
+-- the rows that are listed by their parities are the failing checks
+pub failing-places : (H : Matrix) (z : ℕ → ℕ) (p : List ℕ) → Parities H z p → (l₀ l : List ℕ) (t : ℕ) → PlacesListed (at p) (H .m) l₀ l t
+    → Places (fails H z) (H .m) l t
+failing-places H z p k l₀ l t q = listed-cong (at p) (fails H z) (H .m) l₀ l t (k .each) q .places
 
 -- the parities of a word of zeros
 pub zero-parities : (H : Matrix) → Parities H (at (replicate 1023 0)) (replicate 1023 0)

@@ -4,9 +4,9 @@
 --   turns x from count a b   == how often a part of the index turns a row where a bit was a and is b
 --   flips x gamma a b n      == how often the columns below n turn a row where the word was a and is b
 --   Columns x n gamma        == the index holds a part of gamma rows for each column below n
---   RowParities l m rho z p  == p holds the parity of the bits at each of m rows of the list l
 --   Parities H z p           == p holds the parity of each check of the word z
---   Retallied H z p v f      == p are the parities, v the votes and f the failing checks of the word z
+--   Renewed H z p p′         == p becomes p′, the parities of the word z; the cells past the checks stay
+--   Retallied H z p p′ v f   == so, and v are the votes and f the failing checks of the word z
 -- Assumes nothing.
 use Prim.Native.Nat.{ℕ, _+_, _*_, _%_, _≤_, _<_}
 use mathlib.Core.Path.{_≡_}
@@ -15,7 +15,7 @@ use lib.ListN.{length}
 use Rattle.counting.specs.Paper.Sum.{sumBelow, unequal}
 use Rattle.counting.specs.Places.{at, among}
 use Rattle.matrix.specs.Paper.Code.{Matrix, fails}
-use Rattle.syndrome.specs.Places.{Part, rowFails}
+use Rattle.syndrome.specs.Places.{Part}
 use Rattle.majority_votes.specs.Tallies.{Tallied}
 
 pub record Bits (p : List ℕ) : Type 0 where
@@ -36,14 +36,14 @@ pub record Columns (x : List ℕ) (n gamma : ℕ) : Type 0 where
   pub few : n ≤ 1023
   pub part : (j : ℕ) → j < n → Part x (j * gamma) gamma
 
-pub record RowParities (l : List ℕ) (m rho : ℕ) (z : ℕ → ℕ) (p : List ℕ) : Type 0 where
-  pub bits : Bits p
-  pub each : (i : ℕ) → i < m → at p i ≡ rowFails l rho z i
-
 pub record Parities (H : Matrix) (z : ℕ → ℕ) (p : List ℕ) : Type 0 where
   pub bits : Bits p
   pub each : (i : ℕ) → i < H .m → at p i ≡ fails H z i
 
-pub record Retallied (H : Matrix) (z : ℕ → ℕ) (p v : List ℕ) (f : ℕ) : Type 0 where
-  pub parities : Parities H z p
+pub record Renewed (H : Matrix) (z : ℕ → ℕ) (p p′ : List ℕ) : Type 0 where
+  pub parities : Parities H z p′
+  pub rest : (i : ℕ) → H .m ≤ i → at p′ i ≡ at p i
+
+pub record Retallied (H : Matrix) (z : ℕ → ℕ) (p p′ v : List ℕ) (f : ℕ) : Type 0 where
+  pub renewed : Renewed H z p p′
   pub tallied : Tallied H z v f

@@ -8,9 +8,9 @@ ghost use Rattle.counting.specs.Places.{at, among};
 ghost use Rattle.matrix.specs.Paper.Code.{Word};
 ghost use Rattle.matrix.specs.Paper.PlainCheck.{Accepted};
 ghost use Rattle.matrix.specs.Paper.Shapes.{matrixOf};
-ghost use Rattle.syndrome.specs.Places.{Part, Checks, Places};
+ghost use Rattle.syndrome.specs.Places.{Part};
 ghost use Rattle.matrix_index.specs.Index.{Indexed};
-ghost use Rattle.iterative_tally.specs.Parities.{Bits, ParitiesTurned, turns, flips, Columns, RowParities, Parities, Retallied};
+ghost use Rattle.iterative_tally.specs.Parities.{Bits, ParitiesTurned, turns, flips, Columns, Parities, Renewed, Retallied};
 
 // Turns over the parity at each of `count` row numbers of the index.
 fn turn_checks(index: &[u16], from: usize, count: usize, parity: &mut [u8; 1023])
@@ -55,64 +55,6 @@ fn turn_flipped(
     }
 }
 
-// Lists the rows whose parity is 1 at the front of `rows`, and says how many they are.
-// Each row is written and then counted by its parity, so that no branch is guessed wrong.
-fn list_odd(m: usize, parity: &[u8; 1023], rows: &mut [u16]) -> usize
-    requires { ⌜ (m ≤ 1023) × Bits (now parity) × (length (now rows) ≡ 1023) ⌝ }
-    ensures { λ r. ⌜ Places (at (now (parity .entry))) m (now (rows .exit)) r ⌝ }
-{
-    let mut t = 0;
-    let mut i = 0;
-    while i < m {
-        rows[t] = i as u16;
-        t += parity[i] as usize;
-        i += 1;
-    }
-    t
-}
-
-// The parity of each of m rows of the list.
-fn parities(list: &[u16], m: usize, rho: usize, bits: &[u8; 1023], parity: &mut [u8; 1023])
-    requires { ⌜ Checks (now list) m rho (at (now bits)) × Bits (now parity) ⌝ }
-    ensures { λ _. ⌜ RowParities (now (list .entry)) m rho (at (now (bits .entry))) (now (parity .exit)) ⌝ }
-{
-    let mut i = 0;
-    while i < m {
-        parity[i] = syndrome::row_parity(list, i * rho, rho, bits);
-        i += 1;
-    }
-}
-
-// The same, with the loop over a row's entries laid out for each of the smallest row weights.
-fn parities_by_weight(
-    list: &[u16],
-    m: usize,
-    rho: usize,
-    bits: &[u8; 1023],
-    parity: &mut [u8; 1023],
-)
-    requires { ⌜ Checks (now list) m rho (at (now bits)) × Bits (now parity) ⌝ }
-    ensures { λ _. ⌜ RowParities (now (list .entry)) m rho (at (now (bits .entry))) (now (parity .exit)) ⌝ }
-{
-    if rho == 3 {
-        parities(list, m, 3, bits, parity);
-        return;
-    }
-    if rho == 4 {
-        parities(list, m, 4, bits, parity);
-        return;
-    }
-    if rho == 5 {
-        parities(list, m, 5, bits, parity);
-        return;
-    }
-    if rho == 6 {
-        parities(list, m, 6, bits, parity);
-        return;
-    }
-    parities(list, m, rho, bits, parity);
-}
-
 // The parities of the word `before` become those of the word `bits`. Where a column has few rows, all rows are done anew:
 // that costs less than to ask of each bit whether it was flipped.
 fn renew(
@@ -125,14 +67,14 @@ fn renew(
 )
     requires { ⌜ Accepted (matrixOf shape (now list)) × Indexed (matrixOf shape (now list)) (now index) ⌝ }
     requires { ⌜ Word (matrixOf shape (now list)) (at (now before)) × Word (matrixOf shape (now list)) (at (now bits)) × Parities (matrixOf shape (now list)) (at (now before)) (now parity) ⌝ }
-    ensures { λ _. ⌜ Parities (matrixOf shape (now (list .entry))) (at (now (bits .entry))) (now (parity .exit)) ⌝ }
+    ensures { λ _. ⌜ Renewed (matrixOf shape (now (list .entry))) (at (now (bits .entry))) (now (parity .entry)) (now (parity .exit)) ⌝ }
 {
     let n = shape.n as usize;
     let m = shape.m as usize;
     let rho = shape.rho as usize;
     let gamma = shape.gamma as usize;
     if gamma < 8 {
-        parities_by_weight(list, m, rho, bits, parity);
+        syndrome::row_parities(list, m, rho, bits, parity);
         return;
     }
     turn_flipped(index, n, gamma, before, bits, parity);
@@ -151,13 +93,13 @@ pub fn retally(
 ) -> u16
     requires { ⌜ Accepted (matrixOf shape (now list)) × Indexed (matrixOf shape (now list)) (now index) ⌝ }
     requires { ⌜ Word (matrixOf shape (now list)) (at (now before)) × Word (matrixOf shape (now list)) (at (now bits)) × Parities (matrixOf shape (now list)) (at (now before)) (now parity) ⌝ }
-    ensures { λ r. ⌜ Retallied (matrixOf shape (now (list .entry))) (at (now (bits .entry))) (now (parity .exit)) (now (votes .exit)) r ⌝ }
+    ensures { λ r. ⌜ Retallied (matrixOf shape (now (list .entry))) (at (now (bits .entry))) (now (parity .entry)) (now (parity .exit)) (now (votes .exit)) r ⌝ }
 {
     let m = shape.m as usize;
     let rho = shape.rho as usize;
     let mut rows = [0u16; 1023];
     renew(shape, list, index, before, bits, parity);
-    let count = list_odd(m, parity, &mut rows);
+    let count = syndrome::list_odd(m, parity, &mut rows);
     *votes = [0u8; 1023];
     majority_votes::add_rows(list, rho, &rows, count, votes);
     count as u16

@@ -42,7 +42,7 @@ module _ (H : Matrix) (w old : List ℕ) (l : VoteLent H w old) where
       ∙ distance-cong (H .n) (bitAt-pack (H .n) z b) (λ j h. refl)
 
   -- the report and the word by what the steps of the call leave
-  module _ (zeros bits new : List ℕ) (rounds f : ℕ) (u : Unpacked (H .n) w zeros bits) (s : Stepped H (at bits) new rounds f) where
+  module _ (zeros bits new : List ℕ) (rounds f : ℕ) (u : Unpacked (H .n) w zeros bits) (s : Stepped H bits new rounds f) where
     stepped-word : (j : ℕ) → j < H .n → at new j ≡ stepWord H (bitAt w) j
     stepped-word j h = s .each j h ∙ stepWord-cong H (l .matrix .rows) (at bits) (bitAt w) (u .each) j h
 

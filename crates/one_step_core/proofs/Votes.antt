@@ -3,7 +3,7 @@
 --   voted-bits      == a word that is voted on stays a word
 --   stepped-voted   == some check fails: the bits are flipped, and the checks counted again
 -- Assumes nothing.
-use mathlib.Core.Path.{_≡_, sym, ap, _∙_}
+use mathlib.Core.Path.{_≡_, refl, sym, ap, _∙_}
 use mathlib.Core.List.{List}
 use Prim.Native.Nat.{ℕ, _*_, _<_}
 use native.Mathlib.Omega.{arith}
@@ -36,11 +36,12 @@ word-kept H z e j = rw (eq-eqb (failing H z) 0 e)
 
 module _ (H : Matrix) (a : Accepted H) (bits v : List ℕ) (f : ℕ) (t : Tallied H (at bits) v f) where
   -- no check fails: nothing moves
-  pub stepped-clean : f ≡ 0 → Stepped H (at bits) bits 0 0
+  pub stepped-clean : f ≡ 0 → Stepped H bits bits 0 0
   stepped-clean e =
       let z : failing H (at bits) ≡ 0 = sym (t .count) ∙ e in
       record {
         each = λ j h. sym (word-kept H (at bits) z j);
+        rest = λ j past. refl;
         rounds-are = sym (rounds-none H (at bits) z);
         failing-are = sym (failing-cong H (a .rows) (stepWord H (at bits)) (at bits) (λ j h. word-kept H (at bits) z j) ∙ z);
       }
@@ -59,10 +60,11 @@ module _ (H : Matrix) (a : Accepted H) (bits v : List ℕ) (f : ℕ) (t : Tallie
   voted-bits new w b j h = omega (arith, voted-word new w j h, stepWord-bit H (at bits) b j h)
 
   -- some check fails: the bits are flipped, and the checks counted again
-  pub stepped-voted : (new : List ℕ) (g : ℕ) → (f ≡ 0 → ⊥) → Voted (H .n) (H .gamma) v bits new → g ≡ failing H (at new) → Stepped H (at bits) new 1 g
+  pub stepped-voted : (new : List ℕ) (g : ℕ) → (f ≡ 0 → ⊥) → Voted (H .n) (H .gamma) v bits new → g ≡ failing H (at new) → Stepped H bits new 1 g
   stepped-voted new g ne w e =
       record {
         each = voted-word new w;
+        rest = w .rest;
         rounds-are = sym (rounds-one H (at bits) (λ z. ne (t .count ∙ z)));
         failing-are = e ∙ failing-cong H (a .rows) (at new) (stepWord H (at bits)) (voted-word new w);
       }

@@ -1,5 +1,5 @@
 -- One vote on an unpacked word, and the whole call.
---   Stepped H z bits rounds f   == the array holds the word after the vote, with its rounds and its failing checks
+--   Stepped H z z′ rounds f     == the array z becomes z′, the word after the vote, with its rounds and its failing checks
 --   VoteLent H w old                == what the refusals leave: an accepted matrix, a word, a buffer with room for it
 --   Voted H w old new s         == what the core says and writes
 -- Assumes nothing.
@@ -16,10 +16,11 @@ use Rattle.matrix.specs.Paper.Code.{Matrix, failing}
 use Rattle.matrix.specs.Paper.PlainCheck.{Accepted}
 use Rattle.majority_logic.specs.Paper.OneStep.{stepWord, stepRounds, oneStepReport, oneStepWord}
 
-pub record Stepped (H : Matrix) (z : ℕ → ℕ) (bits : List ℕ) (rounds f : ℕ) : Type 0 where
-  pub each : (j : ℕ) → j < H .n → at bits j ≡ stepWord H z j
-  pub rounds-are : rounds ≡ stepRounds H z
-  pub failing-are : f ≡ failing H (stepWord H z)
+pub record Stepped (H : Matrix) (z z′ : List ℕ) (rounds f : ℕ) : Type 0 where
+  pub each : (j : ℕ) → j < H .n → at z′ j ≡ stepWord H (at z) j
+  pub rest : (j : ℕ) → H .n ≤ j → at z′ j ≡ at z j
+  pub rounds-are : rounds ≡ stepRounds H (at z)
+  pub failing-are : f ≡ failing H (stepWord H (at z))
 
 pub record VoteLent (H : Matrix) (w old : List ℕ) : Type 0 where
   pub matrix : Accepted H

@@ -13,7 +13,7 @@ ghost use Rattle.one_step_core.specs.Stepped.{Stepped, VoteLent, Voted};
 // One vote on an unpacked word: nothing moves where no check fails.
 fn vote(shape: Shape, list: &[u16], bits: &mut [u8; 1023]) -> Stop
     requires { ⌜ Accepted (matrixOf shape (now list)) × Word (matrixOf shape (now list)) (at (now bits)) ⌝ }
-    ensures { λ r. ⌜ Stepped (matrixOf shape (now (list .entry))) (at (now (bits .entry))) (now (bits .exit)) (r .rounds) (r .failing) ⌝ }
+    ensures { λ r. ⌜ Stepped (matrixOf shape (now (list .entry))) (now (bits .entry)) (now (bits .exit)) (r .rounds) (r .failing) ⌝ }
 {
     let mut votes = [0u8; 1023];
     let before = majority_votes::tally(shape, list, bits, &mut votes);

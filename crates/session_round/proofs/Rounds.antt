@@ -27,8 +27,8 @@ use Rattle.iterative_rounds.proofs.Runs.{holds-alike}
 use Rattle.session.specs.Paper.Steps.{stateIn}
 use Rattle.session.specs.RoundParts.{RoundLent, RoundLeft}
 
-module _ (H : Matrix) (L : ℕ) (word : List ℕ) (levels : List ℤ) (p : RoundLent H L word levels) (zeros bits kept votes : List ℕ) (f : ℕ)
-    (u : Unpacked (H .n) word zeros bits) (b : Biased (H .n) L levels kept) (t : Tallied H (at bits) votes f) where
+module _ (H : Matrix) (L : ℕ) (word : List ℕ) (levels : List ℤ) (p : RoundLent H L word levels) (zeros bits cells kept votes : List ℕ) (f : ℕ)
+    (u : Unpacked (H .n) word zeros bits) (b : Biased (H .n) L levels cells kept) (t : Tallied H (at bits) votes f) where
   -- the arrays hold what is lent
   holds-lent : Holds (H .n) L bits kept (stateIn word levels)
   holds-lent =

@@ -1,9 +1,12 @@
 -- Laws of lists of places: one place more is looked at, and a sum over a list of places.
 --   places-none   == no place is looked at yet
 --   places-step   == one place more is looked at
+--   listed-none   == no place is written over the list yet
+--   listed-step   == one place more is written over it
+--   listed-cong   == places written by one test are written so by a test that agrees with it below m
 --   places-sum    == a sum over a list of places is one over all places
 -- Assumes nothing.
-use mathlib.Core.Path.{_≡_, refl, sym, ap, _∙_}
+use mathlib.Core.Path.{_≡_, refl, sym, ap, ap₂, _∙_}
 use mathlib.Core.List.{List}
 use Prim.Native.Nat.{ℕ, zero, suc, _+_, _*_, _<_}
 use native.Mathlib.Nat.{add-zero}
@@ -15,7 +18,7 @@ use lib.Seq.{getD-set-same, getD-set-other}
 use Rattle.counting.specs.Paper.Sum.{sumBelow, same}
 use Rattle.counting.specs.Places.{at}
 use Rattle.counting.proofs.Sums.{sum-cong, sum-zero, sum-swap, sum-pick, sum-mul-right, same-refl, same-ne}
-use Rattle.syndrome.specs.Places.{Places}
+use Rattle.syndrome.specs.Places.{Places, placesOver, PlacesListed}
 
 -- no place is looked at yet
 pub places-none : (f : ℕ → ℕ) (l : List ℕ) → length l ≡ 1023 → Places f 0 l 0
@@ -77,6 +80,44 @@ module _ (f : ℕ → ℕ) (i : ℕ) (l : List ℕ) (t : ℕ) (p : Places f i l 
   places-step zero e h = left-out (sym e)
   places-step (suc zero) e h = taken-in (sym e)
   places-step (suc (suc x)) e h = absurd (omega arith)
+
+-- ---- the list with all its cells
+
+-- no place is written over the list yet
+pub listed-none : (f : ℕ → ℕ) (l : List ℕ) → length l ≡ 1023 → PlacesListed f 0 l l 0
+unfolding placesOver
+listed-none f l e = record { cells = refl; places = places-none f l e }
+
+-- one place more is written over it
+pub listed-step : (f : ℕ → ℕ) (i : ℕ) (l₀ l : List ℕ) (t : ℕ) → PlacesListed f i l₀ l t → i < 1023 → (x : ℕ) → x ≡ f i → x < 2
+    → PlacesListed f (i + 1) l₀ (set l t i) (t + x)
+unfolding placesOver
+listed-step f i l₀ l t p room x e h =
+    record {
+      cells = ap₂ (λ (y : List ℕ) (k : ℕ). set y k i) (p .cells) (p .places .total) ∙ ap (λ (k : ℕ). placesOver f k l₀) (sym (add-one i));
+      places = places-step f i l t (p .places) room x e h;
+    }
+
+-- the cells by a test that agrees below m
+over-cong : (f g : ℕ → ℕ) (l : List ℕ) (m : ℕ) → ((i : ℕ) → i < m → f i ≡ g i) → placesOver f m l ≡ placesOver g m l
+unfolding placesOver
+over-cong f g l zero e = refl
+over-cong f g l (suc m) e =
+    ap₂ (λ (y : List ℕ) (k : ℕ). set y k m) (over-cong f g l m (λ i h. e i (omega arith))) (sum-cong m (λ i h. e i (omega arith)))
+
+-- places written by one test are written so by a test that agrees with it below m
+pub listed-cong : (f g : ℕ → ℕ) (m : ℕ) (l₀ l : List ℕ) (t : ℕ) → ((i : ℕ) → i < m → f i ≡ g i) → PlacesListed f m l₀ l t → PlacesListed g m l₀ l t
+listed-cong f g m l₀ l t e p =
+    record {
+      cells = p .cells ∙ over-cong f g l₀ m e;
+      places = record {
+        long = p .places .long;
+        few = p .places .few;
+        below = p .places .below;
+        each = λ x h. p .places .each x h ∙ e x h;
+        total = p .places .total ∙ sum-cong m e;
+      };
+    }
 
 -- a sum over a list of places is one over all places
 pub places-sum : (f : ℕ → ℕ) (m : ℕ) (l : List ℕ) (t : ℕ) → Places f m l t → (g : ℕ → ℕ) → sumBelow t (λ q. g (at l q)) ≡ sumBelow m (λ x. f x * g x)

@@ -6,10 +6,12 @@
 --   row-fails     == the parity of the bits at a row is its check
 --   row-is        == the parity as it is computed is that of the row
 --   row-bit       == the parity of a row is a bit
+--   parity-at     == the parities of all rows, written over an array, are the checks of the matrix
+--   parity-bit    == and are bits
 --   count-step    == one check more is counted
 --   count-most    == the count is at most the number of rows counted
 -- Assumes nothing.
-use mathlib.Core.Path.{_≡_, refl, _∙_}
+use mathlib.Core.Path.{_≡_, refl, ap, _∙_}
 use mathlib.Core.List.{List}
 use Prim.Native.Nat.{ℕ, zero, suc, _+_, _*_, _%_, _≤_, _<_}
 use native.Mathlib.Nat.{mul-le-mul-right, le-of-suc-le-suc}
@@ -17,7 +19,9 @@ use native.Mathlib.Numerals.{add-one}
 use native.Mathlib.Omega.{arith}
 use lib.Bits.{bitXor}
 use Rattle.counting.specs.Paper.Sum.{sumBelow}
+use Rattle.counting.specs.Paper.Lists.{listed, over}
 use Rattle.counting.specs.Places.{at}
+use Rattle.counting.proofs.Writes.{over-at}
 use Rattle.counting.proofs.Sums.{sum-bound}
 use Rattle.matrix.specs.Paper.Code.{Matrix, entry, Word, fails}
 use Rattle.matrix.specs.Paper.PlainCheck.{Accepted}
@@ -76,6 +80,16 @@ row-is l rho z i x e = e
 pub row-bit : (l : List ℕ) (rho : ℕ) (z : ℕ → ℕ) (i : ℕ) → rowFails l rho z i < 2
 unfolding rowFails
 row-bit l rho z i = omega arith
+
+module _ (H : Matrix) (z : ℕ → ℕ) (old new : List ℕ) (e : new ≡ over (listed (H .m) (rowFails (H .list) (H .rho) z)) old) where
+  -- the parities of all rows are the checks of the matrix
+  pub parity-at : (i : ℕ) → i < H .m → at new i ≡ fails H z i
+  parity-at i h = over-at (H .m) (rowFails (H .list) (H .rho) z) old new e 0 i h ∙ ap (λ (f : ℕ → ℕ). f i) (row-fails H z)
+
+  -- and are bits
+  pub parity-bit : (i : ℕ) → i < H .m → at new i < 2
+  parity-bit i h =
+      omega (arith, over-at (H .m) (rowFails (H .list) (H .rho) z) old new e 0 i h, row-bit (H .list) (H .rho) z i)
 
 -- one check more in a count, which stays within the rows
 pub count-step : (l : List ℕ) (rho : ℕ) (z : ℕ → ℕ) (i f x : ℕ) → f ≡ sumBelow i (rowFails l rho z) → x ≡ rowFails l rho z i

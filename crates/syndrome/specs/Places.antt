@@ -5,11 +5,13 @@
 --   Checks l m rho z         == l holds m rows of rho column numbers each, and the word z has bits there
 --   rowFails l rho z i       == the parity of the bits at row i of such a list
 --   Places f m l t           == the first t of l are the places below m at which f is 1, each once
+--   placesOver f m l         == l with the places below m written over it, each where the next one at which f is 1 belongs
+--   PlacesListed f m l l′ t  == l′ is that, in every cell, and t the number of these places
 -- Assumes nothing.
 use mathlib.Core.Path.{_≡_}
 use mathlib.Core.List.{List}
-use Prim.Native.Nat.{ℕ, _+_, _*_, _%_, _<_, _≤_}
-use lib.ListN.{length}
+use Prim.Native.Nat.{ℕ, zero, suc, _+_, _*_, _%_, _<_, _≤_}
+use lib.ListN.{length, set}
 use Rattle.counting.specs.Paper.Sum.{sumBelow, same}
 use Rattle.counting.specs.Places.{at}
 
@@ -44,3 +46,13 @@ pub record Places (f : ℕ → ℕ) (m : ℕ) (l : List ℕ) (t : ℕ) : Type 0 
   pub below : (q : ℕ) → q < t → at l q < m
   pub each : (x : ℕ) → x < m → sumBelow t (λ q. same (at l q) x) ≡ f x
   pub total : t ≡ sumBelow m f
+
+-- place i is written behind the places before it at which f is 1; where f is 0 at it, the next one is written over it
+unfoldable pub placesOver : (ℕ → ℕ) → ℕ → List ℕ → List ℕ
+placesOver f zero l = l
+placesOver f (suc i) l = set (placesOver f i l) (sumBelow i f) i
+
+-- the list l becomes l′, whose first t cells are the places in their order
+pub record PlacesListed (f : ℕ → ℕ) (m : ℕ) (l l′ : List ℕ) (t : ℕ) : Type 0 where
+  pub cells : l′ ≡ placesOver f m l
+  pub places : Places f m l′ t

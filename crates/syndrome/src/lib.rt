@@ -4,15 +4,16 @@ use answers::Checked;
 use answers::Refusal;
 use matrix_check::Shape;
 ghost use mathlib.Core.Path.{_≡_};
-ghost use Prim.Native.Nat.{_%_, _≤_};
+ghost use Prim.Native.Nat.{ℕ, _%_, _<_, _≤_};
 ghost use lib.ListN.{length};
 ghost use Rattle.answers.specs.Paper.Enums.{verdictOf};
+ghost use Rattle.counting.specs.Paper.Lists.{listed, over};
 ghost use Rattle.counting.specs.Places.{at};
 ghost use Rattle.matrix.specs.Paper.Code.{Word, fails, failing};
 ghost use Rattle.matrix.specs.Paper.PlainCheck.{Accepted};
 ghost use Rattle.matrix.specs.Paper.Shapes.{matrixOf};
 ghost use Rattle.syndrome.specs.Paper.Failing.{wordVerdict};
-ghost use Rattle.syndrome.specs.Places.{Part, BitsAt, onesAt, Checks, rowFails, Places};
+ghost use Rattle.syndrome.specs.Places.{Part, BitsAt, onesAt, Checks, rowFails, PlacesListed};
 
 // The parity of the bits at `count` column numbers of the list: a row's check fails where it is 1.
 // Only this repository's crates call it, with rows of an accepted matrix.
@@ -30,17 +31,61 @@ pub fn row_parity(list: &[u16], from: usize, count: usize, bits: &[u8; 1023]) ->
     x
 }
 
-// Lists the rows whose checks fail at the front of `rows`, and says how many they are.
+// The parity of each of m rows of the list. The cells past them stay.
+fn parities(list: &[u16], m: usize, rho: usize, bits: &[u8; 1023], parity: &mut [u8; 1023])
+    requires { ⌜ Checks (now list) m rho (at (now bits)) × (length (now parity) ≡ 1023) ⌝ }
+    ensures { λ _. ⌜ now (parity .exit) ≡ over (listed m (rowFails (now (list .entry)) rho (at (now (bits .entry))))) (now (parity .entry)) ⌝ }
+{
+    let mut i = 0;
+    while i < m {
+        parity[i] = row_parity(list, i * rho, rho, bits);
+        i += 1;
+    }
+}
+
+// The same, with the loop over a row's entries laid out for each of the smallest row weights.
+// Only this repository's crates call it, with rows of an accepted matrix.
+pub fn row_parities(
+    list: &[u16],
+    m: usize,
+    rho: usize,
+    bits: &[u8; 1023],
+    parity: &mut [u8; 1023],
+)
+    requires { ⌜ Checks (now list) m rho (at (now bits)) × (length (now parity) ≡ 1023) ⌝ }
+    ensures { λ _. ⌜ now (parity .exit) ≡ over (listed m (rowFails (now (list .entry)) rho (at (now (bits .entry))))) (now (parity .entry)) ⌝ }
+{
+    if rho == 3 {
+        parities(list, m, 3, bits, parity);
+        return;
+    }
+    if rho == 4 {
+        parities(list, m, 4, bits, parity);
+        return;
+    }
+    if rho == 5 {
+        parities(list, m, 5, bits, parity);
+        return;
+    }
+    if rho == 6 {
+        parities(list, m, 6, bits, parity);
+        return;
+    }
+    parities(list, m, rho, bits, parity);
+}
+
+// Lists the rows whose parity is 1 at the front of `rows`, in their order, and says how many they are.
 // Each row is written and then counted by its parity, so that no branch is guessed wrong.
-fn list_failing(list: &[u16], m: usize, rho: usize, bits: &[u8; 1023], rows: &mut [u16]) -> usize
-    requires { ⌜ Checks (now list) m rho (at (now bits)) × (length (now rows) ≡ 1023) ⌝ }
-    ensures { λ r. ⌜ Places (rowFails (now (list .entry)) rho (at (now (bits .entry)))) m (now (rows .exit)) r ⌝ }
+// Only this repository's crates call it, with parities of an accepted matrix.
+pub fn list_odd(m: usize, parity: &[u8; 1023], rows: &mut [u16]) -> usize
+    requires { ⌜ (m ≤ 1023) × ((i : ℕ) → i < m → at (now parity) i < 2) × (length (now rows) ≡ 1023) ⌝ }
+    ensures { λ r. ⌜ PlacesListed (at (now (parity .entry))) m (now (rows .entry)) (now (rows .exit)) r ⌝ }
 {
     let mut t = 0;
     let mut i = 0;
     while i < m {
         rows[t] = i as u16;
-        t += row_parity(list, i * rho, rho, bits) as usize;
+        t += parity[i] as usize;
         i += 1;
     }
     t
@@ -50,11 +95,13 @@ fn list_failing(list: &[u16], m: usize, rho: usize, bits: &[u8; 1023], rows: &mu
 // Only this repository's crates call it, after the check.
 pub fn failing_rows(shape: Shape, list: &[u16], bits: &[u8; 1023], rows: &mut [u16; 1023]) -> usize
     requires { ⌜ Accepted (matrixOf shape (now list)) × Word (matrixOf shape (now list)) (at (now bits)) ⌝ }
-    ensures { λ r. ⌜ Places (fails (matrixOf shape (now (list .entry))) (at (now (bits .entry)))) (shape .m) (now (rows .exit)) r ⌝ }
+    ensures { λ r. ⌜ PlacesListed (fails (matrixOf shape (now (list .entry))) (at (now (bits .entry)))) (shape .m) (now (rows .entry)) (now (rows .exit)) r ⌝ }
 {
     let m = shape.m as usize;
     let rho = shape.rho as usize;
-    list_failing(list, m, rho, bits, rows)
+    let mut parity = [0u8; 1023];
+    row_parities(list, m, rho, bits, &mut parity);
+    list_odd(m, &parity, rows)
 }
 
 // How many checks of a word fail. Only this repository's crates call it, after the check.

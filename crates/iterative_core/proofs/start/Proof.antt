@@ -20,7 +20,7 @@ same-length c = search needs
 returns : tie.Need-returns
 returns c =
     let s = c .before .before .before .before .before .before .before .before in
-    filled-started _ _ _ _ _ _ _ (c .before .before .before .before .fill .ensures) (rw (s .pre .1) at (c .bias .ensures))
+    filled-started _ _ _ _ _ _ _ _ (c .before .before .before .before .fill .ensures) (rw (s .pre .1) at (c .bias .ensures))
 
 pub start-spec : {M : Type 1} → statement M
 start-spec = tie.close (tie.spec fill-requires bias-requires same-length returns)

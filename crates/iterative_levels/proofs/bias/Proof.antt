@@ -1,4 +1,4 @@
--- `iterative_levels::bias` meets its contract. The invariant: the first j cells keep the first j levels. Assumes nothing.
+-- `iterative_levels::bias` meets its contract. The invariant: the first j cells keep the first j levels, the others stay. Assumes nothing.
 use mathlib.Core.Path.{_≡_, ap, _∙_}
 use Prim.Native.Nat.{_-_, _≤_, _<_}
 use native.Mathlib.Nat.{le-antisymm}
@@ -15,7 +15,7 @@ use Rattle.iterative_levels.proofs.bias.Statement.{statement}
 use Rattle.iterative_levels.proofs.bias.Tie as tie
 
 abbrev Inv-loop : tie.InvT-loop
-Inv-loop levels n middle kept₀ j₀ kept j = (j ≤ n) × Biased j middle levels kept
+Inv-loop levels n middle kept₀ j₀ kept j = (j ≤ n) × Biased j middle levels kept₀ kept
 
 abbrev μ-loop : tie.MeasureT-loop
 μ-loop levels n middle kept₀ j₀ kept j = n - j
@@ -55,7 +55,7 @@ loop-again c =
     let l = c .before .before .before in
     let a = l .before .args in (
       omega arith,
-      biased-step (l .loop .j) (a .middle) (a .levels .now) (l .loop .kept) (l .loop .inv .1) (omega (arith, l .before .pre .0 .columns)) (c .bias-one .result)
+      biased-step (l .loop .j) (a .middle) (a .levels .now) (a .kept .now) (l .loop .kept) (l .loop .inv .1) (omega (arith, l .before .pre .0 .columns)) (c .bias-one .result)
           (c .bias-one .ensures ∙ ap (biased (a .middle)) (byte-back l (omega arith))),
     )
 

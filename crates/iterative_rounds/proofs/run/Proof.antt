@@ -5,14 +5,13 @@ use Prim.Native.Nat.{_-_}
 use native.Mathlib.Omega.{arith}
 use Rattle.matrix.specs.Paper.Shapes.{matrixOf}
 use Rattle.iterative_tally.proofs.KeptParities.{zero-word, zero-parities}
-use Rattle.iterative_rounds.specs.Runs.{stateOf}
 use Rattle.iterative_rounds.proofs.Runs.{Going, going-starts, going-ready, going-ends, going-step}
 use Rattle.iterative_rounds.proofs.run.Statement.{statement}
 use Rattle.iterative_rounds.proofs.run.Tie as tie
 
 abbrev Inv-loop : tie.InvT-loop
 Inv-loop shape list index limit middle bits₀ levels₀ parity₀ votes₀ failing₀ k₀ bits levels parity votes failing k =
-    Going (matrixOf shape list) middle limit (stateOf middle bits₀ levels₀) bits levels parity votes failing k
+    Going (matrixOf shape list) middle limit bits₀ levels₀ bits levels parity votes failing k
 
 abbrev μ-loop : tie.MeasureT-loop
 μ-loop shape list index limit middle bits₀ levels₀ parity₀ votes₀ failing₀ k₀ bits levels parity votes failing k = limit - k
@@ -26,7 +25,7 @@ retally-requires c κs =
 loop-holds : tie.Need-loop-holds Inv-loop μ-loop
 loop-holds c =
     let z = c .before .before .before .before .before .before .before in
-    going-starts _ _ (z .args .limit) _ _ (z .pre .0) _ _ _ (c .retally .ensures)
+    going-starts _ _ (z .args .limit) _ _ (z .pre .0) _ _ _ _ (c .retally .ensures)
 
 returns : tie.Need-returns Inv-loop μ-loop
 returns c =
@@ -39,7 +38,7 @@ round-requires : tie.Need-round-requires Inv-loop μ-loop
 round-requires c κs =
     let l = c .before .before .before .before .before .before in
     let z = l .before .before .before .before .before .before .before .before in
-    (going-ready _ _ _ _ _ (z .pre .0) _ _ _ _ _ _ (l .loop .inv), (z .pre .1, l .loop .inv .tallied .parities))
+    (going-ready _ _ _ _ _ (z .pre .0) _ _ _ _ _ _ (l .loop .inv), (z .pre .1, l .loop .inv .parities))
 
 add-k : tie.Need-add-k Inv-loop μ-loop
 add-k c = omega (arith, c .before .before .before .before .before .before .before .before .before .before .before .before .before .before .before .fits .limit)

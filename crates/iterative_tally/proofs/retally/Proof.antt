@@ -1,4 +1,5 @@
 -- `iterative_tally::retally`: the parities become those of the new word, and its failing rows, added to a cleared array, are the votes.
+use native.Mathlib.Omega.{arith}
 use borrow.Author.Needs.{needs}
 use Rattle.counting.specs.Places.{at}
 use Rattle.matrix.specs.Paper.Shapes.{matrixOf}
@@ -20,7 +21,9 @@ slice-aggregate-list-odd : tie.Need-slice-aggregate-list-odd
 slice-aggregate-list-odd c = search needs
 
 list-odd-requires : tie.Need-list-odd-requires
-list-odd-requires c κs = search needs
+list-odd-requires c κs =
+    let s = c .before .before .before .before .before .before .before .before in
+    (s .pre .0 .0 .sizes .m-most, λ i _. c .before .before .renew .ensures .parities .bits .bit i, omega arith)
 
 add-rows-requires : tie.Need-add-rows-requires
 add-rows-requires c κs =
@@ -31,7 +34,7 @@ add-rows-requires c κs =
     let new = c .before .before .before .before .before .before .before .renew in
     let l = odd .last .1 .1 .0 in
     let t = odd .result in
-    let f = failing-places H w (new .last .1 .1 .1 .1 .1 .0) (new .ensures) l t (odd .ensures) in
+    let f = failing-places H w (new .last .1 .1 .1 .1 .1 .0) (new .ensures .parities) _ l t (odd .ensures) in
     (failing-parts H (s .pre .0 .0) w l t f, failing-room H (s .pre .0 .0) w l t f)
 
 cast-result : tie.Need-cast-result
@@ -46,8 +49,8 @@ returns c =
     let new = c .before .before .before .before .before .before .before .before .renew in
     let l = odd .last .1 .1 .0 in
     let t = odd .result in
-    let f = failing-places H w (new .last .1 .1 .1 .1 .1 .0) (new .ensures) l t (odd .ensures) in record {
-      parities = new .ensures;
+    let f = failing-places H w (new .last .1 .1 .1 .1 .1 .0) (new .ensures .parities) _ l t (odd .ensures) in record {
+      renewed = new .ensures;
       tallied = tallied H (s .pre .0 .0) w l t f (c .add-rows .last .1 .1 .1 .1 .0) (c .add-rows .ensures);
     }
 

@@ -18,8 +18,8 @@ add-rows-requires c κs =
     let H = matrixOf (s .args .shape) (s .args .list .now) in
     let z = at (s .args .bits .now) in
     let f = c .before .before .before .failing-rows in (
-      failing-parts H (s .pre .0) z (f .last .1 .1 .1 .0) (f .result) (f .ensures),
-      failing-room H (s .pre .0) z (f .last .1 .1 .1 .0) (f .result) (f .ensures),
+      failing-parts H (s .pre .0) z (f .last .1 .1 .1 .0) (f .result) (f .ensures .places),
+      failing-room H (s .pre .0) z (f .last .1 .1 .1 .0) (f .result) (f .ensures .places),
     )
 
 cast-result : tie.Need-cast-result
@@ -31,7 +31,7 @@ returns c =
     let H = matrixOf (s .args .shape) (s .args .list .now) in
     let z = at (s .args .bits .now) in
     let f = c .before .before .before .before .failing-rows in
-    tallied H (s .pre .0) z (f .last .1 .1 .1 .0) (f .result) (f .ensures) (c .add-rows .last .1 .1 .1 .1 .0) (c .add-rows .ensures)
+    tallied H (s .pre .0) z (f .last .1 .1 .1 .0) (f .result) (f .ensures .places) (c .add-rows .last .1 .1 .1 .1 .0) (c .add-rows .ensures)
 
 pub tally-spec : {M : Type 1} → statement M
 tally-spec =

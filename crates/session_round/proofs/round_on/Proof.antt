@@ -33,7 +33,7 @@ lent-matrix s = matrixOf (s .args .shape) (s .args .list .now)
 next-bits : (c : tie.After-update) → Word (lent-matrix (start c)) (at (c .update .last .1 .1 .1 .1 .1 .0))
 next-bits c =
     let s = start c in
-    next-word (lent-matrix s) (s .args .middle) (s .args .word .now) (s .args .levels .now) (s .pre) _ _ _ _ _
+    next-word (lent-matrix s) (s .args .middle) (s .args .word .now) (s .args .levels .now) (s .pre) _ _ _ _ _ _
     (unpacked (kept (tallied c)) .unpack .ensures) (kept (tallied c) .bias .ensures) (tallied c .tally .ensures) _ _ (c .update .ensures)
 
 cast-n : tie.Need-cast-n
@@ -66,7 +66,7 @@ unbias-requires : tie.Need-unbias-requires
 unbias-requires c κs =
     let u = c .before .before .before .before .before .before .before in
     let s = start u in
-    next-restorable (lent-matrix s) (s .args .middle) (s .args .word .now) (s .args .levels .now) (s .pre) _ _ _ _ _
+    next-restorable (lent-matrix s) (s .args .middle) (s .args .word .now) (s .args .levels .now) (s .pre) _ _ _ _ _ _
     (unpacked (kept (tallied u)) .unpack .ensures) (kept (tallied u) .bias .ensures) (tallied u .tally .ensures) _ _ (u .update .ensures)
 
 failing-count-requires : tie.Need-failing-count-requires
@@ -85,7 +85,7 @@ returns c =
     let p = c .before .before .before .before .before .before .before .before in
     let u = p .before .before .before in
     let s = start u in
-    round-left (lent-matrix s) (s .args .middle) (s .args .word .now) (s .args .levels .now) (s .pre) _ _ _ _ _
+    round-left (lent-matrix s) (s .args .middle) (s .args .word .now) (s .args .levels .now) (s .pre) _ _ _ _ _ _
     (unpacked (kept (tallied u)) .unpack .ensures) (kept (tallied u) .bias .ensures) (tallied u .tally .ensures) _ _ (u .update .ensures) _ _ _
     (p .pack-into .ensures) (c .before .before .before .unbias .ensures) (c .failing-count .ensures)
 

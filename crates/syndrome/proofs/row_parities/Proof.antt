@@ -1,9 +1,9 @@
--- `iterative_tally::parities_by_weight`: each case is `parities` at that row weight.
+-- `syndrome::row_parities`: each case is `parities` at that row weight.
 use mathlib.Core.Path.{_≡_}
 use native.Mathlib.Omega.{arith}
 use borrow.Author.Needs.{needs}
-use Rattle.iterative_tally.proofs.parities_by_weight.Statement.{statement}
-use Rattle.iterative_tally.proofs.parities_by_weight.Tie as tie
+use Rattle.syndrome.proofs.row_parities.Statement.{statement}
+use Rattle.syndrome.proofs.row_parities.Tie as tie
 
 parities-requires : tie.Need-parities-requires
 parities-requires c κs =
@@ -59,8 +59,8 @@ parities-requires-5 c κs = search needs
 returns-5 : tie.Need-returns-5
 returns-5 c = search needs
 
-pub parities-by-weight-spec : {M : Type 1} → statement M
-parities-by-weight-spec =
+pub row-parities-spec : {M : Type 1} → statement M
+row-parities-spec =
     tie.close
     (tie.spec
     parities-requires

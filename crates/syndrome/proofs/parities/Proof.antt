@@ -1,23 +1,25 @@
--- `iterative_tally::parities`. The loop's invariant: the parities of the first `i` rows are written.
+-- `syndrome::parities`. The loop's invariant: the parities of the first `i` rows are written over the old ones.
 use Prim.Native.Nat.{_-_, _≤_}
+use mathlib.Core.Path.{_≡_, sym}
 use native.Mathlib.Nat.{le-antisymm}
 use native.Mathlib.Omega.{arith}
+use Rattle.counting.specs.Paper.Lists.{listed, over}
 use Rattle.counting.specs.Places.{at}
+use Rattle.counting.proofs.Writes.{over-none, over-long, over-step}
+use Rattle.syndrome.specs.Places.{rowFails}
 use Rattle.syndrome.proofs.Parity.{row-is}
-use Rattle.iterative_tally.specs.Parities.{RowParities}
-use Rattle.iterative_tally.proofs.KeptParities.{rows-none, rows-step}
-use Rattle.iterative_tally.proofs.parities.Statement.{statement}
-use Rattle.iterative_tally.proofs.parities.Tie as tie
+use Rattle.syndrome.proofs.parities.Statement.{statement}
+use Rattle.syndrome.proofs.parities.Tie as tie
 
 abbrev Inv-loop : tie.InvT-loop
-Inv-loop list m rho bits parity₀ i₀ parity i = (i ≤ m) × RowParities list i rho (at bits) parity
+Inv-loop list m rho bits parity₀ i₀ parity i = (i ≤ m) × (parity ≡ over (listed i (rowFails list rho (at bits))) parity₀)
 
 abbrev μ-loop : tie.MeasureT-loop
 μ-loop list m rho bits parity₀ i₀ parity i = m - i
 
 loop-holds : tie.Need-loop-holds Inv-loop μ-loop
 loop-holds c =
-    let a = c .before .args in (omega arith, rows-none (a .list .now) (a .rho) (at (a .bits .now)) (a .parity .now) (c .before .pre .1))
+    (omega arith, sym (over-none _ _))
 
 mul-row-parity : tie.Need-mul-row-parity Inv-loop μ-loop
 mul-row-parity c = omega (arith, c .before .before .before .pre .0 .part (c .before .loop .i) (omega arith) .short)
@@ -43,8 +45,8 @@ loop-again c =
     let a = s .args in
     let x = c .row-parity .result in (
       omega arith,
-      rows-step (a .list .now) (o .i) (a .rho) (at (a .bits .now)) (o .parity) x (omega (arith, s .pre .0 .few))
-          (row-is (a .list .now) (a .rho) (at (a .bits .now)) (o .i) x (c .row-parity .ensures)) (o .inv .1),
+      over-step (o .i) (rowFails (a .list .now) (a .rho) (at (a .bits .now))) (a .parity .now) (o .parity) (o .inv .1) x
+          (omega (arith, s .pre .0 .few, s .pre .1)) (row-is (a .list .now) (a .rho) (at (a .bits .now)) (o .i) x (c .row-parity .ensures)),
     )
 
 returns : tie.Need-returns Inv-loop μ-loop
