@@ -10,28 +10,28 @@ use Prim.Native.Nat.{ℕ, _≤_, _<_}
 use native.Mathlib.Omega.{arith}
 use lib.ListN.{length, take}
 use Rattle.program_ends.specs.Stages.{Awaited, wanted, firstReply}
-use Rattle.program_ends.specs.Replies.{Ready, Replied}
+use Rattle.program_ends.specs.Replies.{Ready, RepliedOver}
 use Rattle.program_ends.proofs.Stages.{wanted-fits, ready-next, rank, rank-falls}
 use Rattle.program.specs.Pieces.{PieceLent, Piece}
 
 -- the run begins
-pub lent-first : {a : Awaited} {w e : ℕ} {l input out : List ℕ} → Replied firstReply a w e out → length l ≡ 32736 → length input ≡ 65536 → length out ≡ 65536
+pub lent-first : {a : Awaited} {w e : ℕ} {l input out₀ out : List ℕ} → RepliedOver firstReply a w e out₀ out → length l ≡ 32736 → length input ≡ 65536 → length out ≡ 65536
     → PieceLent a w l input out
 lent-first r x y z =
-    record { ready = subst Ready (sym (r .awaited)) tt; want = r .want ∙ ap wanted (sym (r .awaited)); list = x; long = y; room = z }
+    record { ready = subst Ready (sym (r .reply .awaited)) tt; want = r .reply .want ∙ ap wanted (sym (r .reply .awaited)); list = x; long = y; room = z }
 
 module _ {a : Awaited} {w : ℕ} {l input out : List ℕ} (b : PieceLent a w l input out) where
   -- what is wanted fits the input buffer
   pub fits : w ≤ length input
   fits = omega (arith, b .want, b .long, wanted-fits a (b .ready))
 
-  module _ {a′ : Awaited} {w′ e : ℕ} {input′ out′ : List ℕ} (p : Piece a input′ a′ w′ e out′) where
+  module _ {a′ : Awaited} {w′ e : ℕ} {l′ input′ out′ : List ℕ} (p : Piece a l l′ input input′ a′ w′ e out out′) where
     -- after a piece the run can go on
-    pub lent-next : {l′ : List ℕ} → length l′ ≡ length l → length input′ ≡ length input → length out′ ≡ length out → PieceLent a′ w′ l′ input′ out′
+    pub lent-next : length l′ ≡ length l → length input′ ≡ length input → length out′ ≡ length out → PieceLent a′ w′ l′ input′ out′
     lent-next x y z =
         record {
-          ready = subst Ready (sym (p .reply .awaited)) (ready-next a (take (p .got) input′) (b .ready));
-          want = p .reply .want ∙ ap wanted (sym (p .reply .awaited));
+          ready = subst Ready (sym (p .advanced .replied .reply .awaited)) (ready-next a (take (p .got) input′) (b .ready));
+          want = p .advanced .replied .reply .want ∙ ap wanted (sym (p .advanced .replied .reply .awaited));
           list = x ∙ b .list;
           long = y ∙ b .long;
           room = z ∙ b .room;
@@ -41,4 +41,4 @@ module _ {a : Awaited} {w : ℕ} {l input out : List ℕ} (b : PieceLent a w l i
     pub rank-next : 0 < w → rank a′ < rank a
     rank-next h =
         let some : 0 < wanted a = omega (arith, b .want) in
-        omega (arith, ap rank (p .reply .awaited), rank-falls a (take (p .got) input′) (b .ready) some)
+        omega (arith, ap rank (p .advanced .replied .reply .awaited), rank-falls a (take (p .got) input′) (b .ready) some)

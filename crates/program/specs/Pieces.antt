@@ -1,14 +1,14 @@
 -- The run as it reads its input: piece by piece.
 --   PieceLent a w l input out       == the run awaits a, which wants w bytes, and its buffers are long enough
 --   piecesText t a bs          == the texts of t replies from a on, each to the front of what is left of the input
---   Piece a input a′ w e out   == the front of `input` came for a; a′ is awaited then, and the reply's text stands before e in `out`
+--   Piece a l l′ input input′ ..   == the front of `input′` came for a; a′ is awaited then, and the reply's text stands before e in `out′`
 -- Assumes nothing.
 use Prim.Native.Nat.{ℕ, zero, suc, _≤_}
 use mathlib.Core.Path.{_≡_}
 use mathlib.Core.List.{List, [], _++_}
 use lib.ListN.{length, take, drop}
 use Rattle.program_ends.specs.Stages.{Awaited, wanted, replyTo}
-use Rattle.program_ends.specs.Replies.{Ready, Replied}
+use Rattle.program_ends.specs.Replies.{Ready, Advanced}
 
 -- a reply gets the bytes that it wants, or all that are left
 unfoldable pub piecesText : ℕ → Awaited → List ℕ → List ℕ
@@ -23,8 +23,9 @@ pub record PieceLent (a : Awaited) (w : ℕ) (l input out : List ℕ) : Type 0 w
   pub long : length input ≡ 65536
   pub room : length out ≡ 65536
 
--- no more came than is wanted; what is awaited then can be read
-pub record Piece (a : Awaited) (input : List ℕ) (a′ : Awaited) (w e : ℕ) (out : List ℕ) : Type 0 where
+-- no more came than is wanted; what is awaited then can be read; of each buffer the other cells stay
+pub record Piece (a : Awaited) (l l′ input input′ : List ℕ) (a′ : Awaited) (w e : ℕ) (out out′ : List ℕ) : Type 0 where
   pub got : ℕ
   pub few : got ≤ wanted a
-  pub reply : Replied (replyTo a (take got input)) a′ w e out
+  pub unread : drop (wanted a) input′ ≡ drop (wanted a) input
+  pub advanced : Advanced a (take got input′) l l′ a′ w e out out′

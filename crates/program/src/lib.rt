@@ -16,7 +16,7 @@ fn read_and_reply(
     out: &mut [u8],
 ) -> Next
     requires { ⌜ PieceLent (awaitedOf stage (now list)) want (now list) (now input) (now out) ⌝ }
-    ensures { λ r. ⌜ Piece (awaitedOf stage (now (list .entry))) (now (input .exit)) (awaitedOf (r .stage) (now (list .exit))) (r .want) (r .end) (now (out .exit)) ⌝ }
+    ensures { λ r. ⌜ Piece (awaitedOf stage (now (list .entry))) (now (list .entry)) (now (list .exit)) (now (input .entry)) (now (input .exit)) (awaitedOf (r .stage) (now (list .exit))) (r .want) (r .end) (now (out .entry)) (now (out .exit)) ⌝ }
 {
     let got = program_io::read(input, want);
     let next = program_ends::advance(stage, list, &input[..got], out);

@@ -1,9 +1,12 @@
 -- Laws of the replies: the text of a reply, and the reply to the bytes that came.
 --   text-alone                              == a text put at the front of the buffer is all that stands before its end
 --   text-within                             == a text put at the front of the buffer ends within it
+--   text-rest                               == the bytes from its end on stay
 --   replied-as                              == an equal reply
+--   replied-over                            == a reply whose text was put over a buffer
 --   sizes-short, sizes-refused, sizes-fit   == the reply to the sizes
 --   list-short, list-whole                  == the reply to the list
+--   kept-short, written-whole               == and the array of the list
 --   setting-short, setting-whole            == the reply to the setting
 --   reply                                   == a reply by its text and what is awaited next
 --   blocks-last, blocks-more                == what is awaited after blocks
@@ -19,7 +22,7 @@ use Prim.Native.Nat.{ℕ, suc, _+_, _*_, _/_, _≤_, _<_}
 use native.Mathlib.Nat.{suc-mul, div-lt-iff-lt-mul}
 use native.Mathlib.Omega.{arith}
 use borrow.Author.Tests.{lt-ltb, le-ltb}
-use lib.ListN.{length, take}
+use lib.ListN.{length, take, drop}
 use Rattle.counting.specs.Paper.Lists.{over}
 use Rattle.counting.proofs.Writes.{take-over, length-listed}
 use Rattle.byte_numbers.specs.Paper.Numbers.{entryIn, entriesIn}
@@ -27,7 +30,7 @@ use Rattle.matrix.specs.Paper.Code.{Matrix}
 use Rattle.matrix.specs.Paper.Check.{sizesFit}
 use Rattle.quantiser_levels.specs.Paper.Samples.{Setting}
 use Rattle.program_numerals.specs.Texts.{PutWithin}
-use Rattle.program_numerals.proofs.Puts.{put-front, put-length}
+use Rattle.program_numerals.proofs.Puts.{put-front, put-length, put-rest}
 use Rattle.program_text.specs.Paper.Output.{shortText, refusedText}
 use Rattle.program_input.specs.Paper.Input.{matrixIn, settingIn}
 use Rattle.program_input.specs.Paper.Opening.{Opening, opening, openingVerdict, Decodable}
@@ -36,7 +39,7 @@ use Rattle.program_lines.specs.Loans.{Countable}
 use Rattle.program_turns.specs.Turns.{atOnce, bytesAtOnce, AtOnce}
 use Rattle.program_ends.specs.Stages.{Awaited, theList, theSetting, blocksFrom, withList, Reply, ends, goesOn, openedReply, sizesReply}
 use Rattle.program_ends.specs.Stages.{listReply, settingReply, blocksReply, replyTo}
-use Rattle.program_ends.specs.Replies.{awaitedOf, Asked, Replied}
+use Rattle.program_ends.specs.Replies.{awaitedOf, Asked, Replied, RepliedOver, listAfter, Advanced}
 use Rattle.program_ends.specs.declared.Stage.{Stage}
 
 -- ---- the text of a reply
@@ -49,9 +52,19 @@ text-alone p few = put-front (omega (arith, p .within, p .put .ends)) (p .put)
 pub text-within : {k end : ℕ} {text old new : List ℕ} → PutWithin k text 0 old new end → k ≤ length old → end ≤ length new
 text-within p few = omega (arith, p .within, put-length (p .put))
 
+-- the bytes from its end on stay
+pub text-rest : {k end : ℕ} {text old new : List ℕ} → PutWithin k text 0 old new end → k ≤ length old → drop end new ≡ drop end old
+text-rest p few = put-rest (omega (arith, p .within, p .put .ends)) (p .put)
+
 -- an equal reply
 pub replied-as : {r t : Reply} {a : Awaited} {w e : ℕ} {out : List ℕ} → r ≡ t → Replied r a w e out → Replied t a w e out
 replied-as q p = rw q at p
+
+-- a reply whose text was put over a buffer
+pub replied-over : {k end e : ℕ} {text old new : List ℕ} {r t : Reply} {a : Awaited} {w : ℕ} → PutWithin k text 0 old new end → k ≤ length old → e ≡ end
+    → r ≡ t → Replied r a w e new → RepliedOver t a w e old new
+replied-over {old = old} {new = new} p few same q h =
+    record { reply = replied-as q h; rest = rw same (text-rest p few) }
 
 -- ---- the reply to the sizes
 
@@ -80,6 +93,13 @@ module _ (H : Matrix) (bs : List ℕ) where
   pub list-whole : 2 * (H .m * H .rho) ≤ length bs → goesOn (theSetting (withList H (entriesIn bs))) ≡ listReply H bs
   unfolding listReply
   list-whole h = rw (le-ltb (length bs) (2 * (H .m * H .rho)) h)
+
+  -- and the array of the list
+  pub kept-short : (l : List ℕ) → length bs < 2 * (H .m * H .rho) → l ≡ listAfter (theList H) bs l
+  kept-short l h = rw (lt-ltb (length bs) (2 * (H .m * H .rho)) h)
+
+  pub written-whole : (l : List ℕ) → 2 * (H .m * H .rho) ≤ length bs → over (entriesIn bs) l ≡ listAfter (theList H) bs l
+  written-whole l h = rw (le-ltb (length bs) (2 * (H .m * H .rho)) h)
 
   -- the reply to the setting
   pub setting-short : length bs < 7 → ends shortText ≡ settingReply H bs
@@ -136,5 +156,6 @@ module _ {s t : Stage} (e : s ≡ t) (l bs : List ℕ) {out : List ℕ} where
   pub asked-at : Asked (awaitedOf s l) l bs out → Asked (awaitedOf t l) l bs out
   asked-at p = rw e at p
 
-  pub replied-at : {a : Awaited} {w x : ℕ} → Replied (replyTo (awaitedOf t l) bs) a w x out → Replied (replyTo (awaitedOf s l) bs) a w x out
-  replied-at p = rw e p
+  pub replied-at : {l′ out′ : List ℕ} {a : Awaited} {w x : ℕ} → RepliedOver (replyTo (awaitedOf t l) bs) a w x out out′ → l′ ≡ listAfter (awaitedOf t l) bs l
+      → Advanced (awaitedOf s l) bs l l′ a w x out out′
+  replied-at p q = rw e (record { replied = p; list = q })

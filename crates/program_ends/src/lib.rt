@@ -11,9 +11,9 @@ ghost use mathlib.Core.List.{List, []};
 ghost use lib.ListN.{length, take};
 ghost use Rattle.matrix.specs.Paper.Shapes.{matrixOf};
 ghost use Rattle.quantiser_settings.specs.Paper.Settings.{settingOf};
-ghost use Rattle.program_ends.specs.Stages.{theList, theSetting, blocksFrom, firstReply, ends, sizesReply, listReply, settingReply, blocksReply, replyTo};
+ghost use Rattle.program_ends.specs.Stages.{theList, theSetting, blocksFrom, firstReply, ends, sizesReply, settingReply, blocksReply};
 ghost use Rattle.program_turns.specs.Turns.{bytesAtOnce};
-ghost use Rattle.program_ends.specs.Replies.{awaitedOf, Asked, Replied};
+ghost use Rattle.program_ends.specs.Replies.{awaitedOf, Asked, Replied, RepliedOver, Advanced};
 
 // What the run awaits: with the sizes that it has, the setting, and the number of the next block.
 pub enum Stage {
@@ -42,7 +42,7 @@ fn entries(shape: Shape) -> usize
 // The run begins: the heading, and the sizes are awaited. Only this repository's crates call it, with a large buffer.
 pub fn first(out: &mut [u8]) -> Next
     requires { ⌜ length (now out) ≡ 65536 ⌝ }
-    ensures { λ r. ⌜ ((l : List ℕ) → Replied firstReply (awaitedOf (r .stage) l) (r .want) (r .end) (now (out .exit))) ⌝ }
+    ensures { λ r. ⌜ ((l : List ℕ) → RepliedOver firstReply (awaitedOf (r .stage) l) (r .want) (r .end) (now (out .entry)) (now (out .exit))) ⌝ }
 {
     let end = program_text::put_heading(out, 0);
     Next {
@@ -55,7 +55,7 @@ pub fn first(out: &mut [u8]) -> Next
 // The run ends with the text that stands before `end`.
 fn ended(out: &[u8], end: usize) -> Next
     requires { ⌜ end ≤ length (now out) ⌝ }
-    ensures { λ r. ⌜ ((l : List ℕ) → Replied (ends (take end (now (out .entry)))) (awaitedOf (r .stage) l) (r .want) (r .end) (now (out .entry))) ⌝ }
+    ensures { λ r. ⌜ ((l : List ℕ) → Replied (ends (take end (now (out .entry)))) (awaitedOf (r .stage) l) (r .want) (r .end) (now (out .entry))) × (r .end ≡ end) ⌝ }
 {
     Next {
         stage: Stage::AtEnd,
@@ -81,7 +81,7 @@ fn at_blocks(shape: Shape, setting: Setting, number: u16, end: usize) -> Next
 // The sizes came, or the input ended.
 fn after_sizes(bytes: &[u8], out: &mut [u8]) -> Next
     requires { ⌜ length (now out) ≡ 65536 ⌝ }
-    ensures { λ r. ⌜ ((l : List ℕ) → Replied (sizesReply (now (bytes .entry))) (awaitedOf (r .stage) l) (r .want) (r .end) (now (out .exit))) ⌝ }
+    ensures { λ r. ⌜ ((l : List ℕ) → RepliedOver (sizesReply (now (bytes .entry))) (awaitedOf (r .stage) l) (r .want) (r .end) (now (out .entry)) (now (out .exit))) ⌝ }
 {
     if bytes.len() < 8 {
         let end = program_text::put_short(out, 0);
@@ -103,7 +103,7 @@ fn after_sizes(bytes: &[u8], out: &mut [u8]) -> Next
 // The list came, or the input ended.
 fn after_list(shape: Shape, list: &mut [u16], bytes: &[u8], out: &mut [u8]) -> Next
     requires { ⌜ Asked (theList (matrixOf shape [])) (now list) (now bytes) (now out) ⌝ }
-    ensures { λ r. ⌜ Replied (listReply (matrixOf shape []) (now (bytes .entry))) (awaitedOf (r .stage) (now (list .exit))) (r .want) (r .end) (now (out .exit)) ⌝ }
+    ensures { λ r. ⌜ Advanced (theList (matrixOf shape [])) (now (bytes .entry)) (now (list .entry)) (now (list .exit)) (awaitedOf (r .stage) (now (list .exit))) (r .want) (r .end) (now (out .entry)) (now (out .exit)) ⌝ }
 {
     let want = 2 * entries(shape);
     if bytes.len() < want {
@@ -121,7 +121,7 @@ fn after_list(shape: Shape, list: &mut [u16], bytes: &[u8], out: &mut [u8]) -> N
 // The setting came, or the input ended.
 fn after_setting(shape: Shape, list: &[u16], bytes: &[u8], out: &mut [u8]) -> Next
     requires { ⌜ Asked (theSetting (matrixOf shape (take (shape .m * shape .rho) (now list)))) (now list) (now bytes) (now out) ⌝ }
-    ensures { λ r. ⌜ Replied (settingReply (matrixOf shape (take (shape .m * shape .rho) (now (list .entry)))) (now (bytes .entry))) (awaitedOf (r .stage) (now (list .entry))) (r .want) (r .end) (now (out .exit)) ⌝ }
+    ensures { λ r. ⌜ RepliedOver (settingReply (matrixOf shape (take (shape .m * shape .rho) (now (list .entry)))) (now (bytes .entry))) (awaitedOf (r .stage) (now (list .entry))) (r .want) (r .end) (now (out .entry)) (now (out .exit)) ⌝ }
 {
     if bytes.len() < 7 {
         let end = program_text::put_short(out, 0);
@@ -148,7 +148,7 @@ fn after_blocks(
     out: &mut [u8],
 ) -> Next
     requires { ⌜ Asked (blocksFrom (matrixOf shape (take (shape .m * shape .rho) (now list))) (settingOf setting) number) (now list) (now bytes) (now out) ⌝ }
-    ensures { λ r. ⌜ Replied (blocksReply (matrixOf shape (take (shape .m * shape .rho) (now (list .entry)))) (settingOf setting) number (now (bytes .entry))) (awaitedOf (r .stage) (now (list .entry))) (r .want) (r .end) (now (out .exit)) ⌝ }
+    ensures { λ r. ⌜ RepliedOver (blocksReply (matrixOf shape (take (shape .m * shape .rho) (now (list .entry)))) (settingOf setting) number (now (bytes .entry))) (awaitedOf (r .stage) (now (list .entry))) (r .want) (r .end) (now (out .entry)) (now (out .exit)) ⌝ }
 {
     let n = shape.n as usize;
     let some = program_turns::at_once(n, number);
@@ -164,7 +164,7 @@ fn after_blocks(
 // The bytes came that a stage awaits, or fewer where the input ended. Only this repository's crates call it.
 pub fn advance(stage: Stage, list: &mut [u16], bytes: &[u8], out: &mut [u8]) -> Next
     requires { ⌜ Asked (awaitedOf stage (now list)) (now list) (now bytes) (now out) ⌝ }
-    ensures { λ r. ⌜ Replied (replyTo (awaitedOf stage (now (list .entry))) (now (bytes .entry))) (awaitedOf (r .stage) (now (list .exit))) (r .want) (r .end) (now (out .exit)) ⌝ }
+    ensures { λ r. ⌜ Advanced (awaitedOf stage (now (list .entry))) (now (bytes .entry)) (now (list .entry)) (now (list .exit)) (awaitedOf (r .stage) (now (list .exit))) (r .want) (r .end) (now (out .entry)) (now (out .exit)) ⌝ }
 {
     match stage {
         Stage::AtSizes => after_sizes(bytes, out),

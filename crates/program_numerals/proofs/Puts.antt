@@ -4,14 +4,15 @@
 --   put-as       == an equal text is put alike
 --   put-length   == the buffer is as long as before
 --   put-front    == what then stands before the end: what stood before the text, and the text
+--   put-rest     == what stands from the end on is what stood there
 -- Assumes nothing.
 use mathlib.Core.Path.{_≡_, refl, sym, ap, ap₂, _∙_}
 use mathlib.Core.List.{List, [], _++_}
 use Prim.Native.Nat.{ℕ, _+_, _≤_}
 use native.Mathlib.Nat.{add-zero}
 use native.Mathlib.Omega.{arith}
-use lib.ListN.{length, take, length-append}
-use lib.Seq.{sets, length-sets, sets-eq, take-at, length-take-le}
+use lib.ListN.{length, take, drop, length-append}
+use lib.Seq.{sets, length-sets, sets-eq, take-at, drop-at, length-take-le}
 use Rattle.counting.proofs.Stores.{sets-append}
 use Rattle.program_numerals.specs.Texts.{Put}
 
@@ -40,3 +41,11 @@ pub put-front : {t : List ℕ} {at end : ℕ} {a b : List ℕ} → at + length t
 put-front {t} {at} {end} {a} h p =
     let l : length (take at a ++ t) ≡ at + length t = length-append (take at a) t ∙ omega (arith, length-take-le at a (omega arith)) in
     ap₂ take (p .ends) (p .bytes ∙ sets-eq t a at h) ∙ take-at (take at a ++ t) _ (at + length t) l
+
+-- what stands from the end on is what stood there
+pub put-rest : {t : List ℕ} {at end : ℕ} {a b : List ℕ} → at + length t ≤ length a → Put t at a b end → drop end b ≡ drop end a
+put-rest {t} {at} {end} {a} h p =
+    let l : length (take at a ++ t) ≡ at + length t = length-append (take at a) t ∙ omega (arith, length-take-le at a (omega arith)) in
+    ap₂ drop (p .ends) (p .bytes ∙ sets-eq t a at h)
+    ∙ drop-at (take at a ++ t) _ (at + length t) l
+    ∙ ap (λ (x : ℕ). drop x a) (sym (p .ends))

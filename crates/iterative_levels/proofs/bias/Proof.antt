@@ -20,13 +20,17 @@ Inv-loop levels n middle kept₀ j₀ kept j = (j ≤ n) × Biased j middle leve
 abbrev μ-loop : tie.MeasureT-loop
 μ-loop levels n middle kept₀ j₀ kept j = n - j
 
+-- where the call begins
+abbrev entered : tie.At-loop Inv-loop μ-loop → tie.Start Inv-loop μ-loop
+entered l = l .before
+
 -- the level that is read is the machine's
-byte-back : (l : tie.At-loop Inv-loop μ-loop) → l .loop .j < l .before .args .n
-    → toZ w8 (ofZ w8 (getD (l .before .args .levels .now) (l .loop .j) (pos 0))) ≡ getD (l .before .args .levels .now) (l .loop .j) (pos 0)
+byte-back : (l : tie.At-loop Inv-loop μ-loop) → l .loop .j < entered l .args .n
+    → toZ w8 (ofZ w8 (getD (entered l .args .levels .now) (l .loop .j) (pos 0))) ≡ getD (entered l .args .levels .now) (l .loop .j) (pos 0)
 byte-back l h =
-    let p = l .before .pre .0 in
-    let r = getD (l .before .args .levels .now) (l .loop .j) (pos 0) in
-    toZ-ofZ w8 r (level-byte r (l .before .args .middle) (p .largest) (p .within (l .loop .j) h))
+    let p = entered l .pre .0 in
+    let r = getD (entered l .args .levels .now) (l .loop .j) (pos 0) in
+    toZ-ofZ w8 r (level-byte r (entered l .args .middle) (p .largest) (p .within (l .loop .j) h))
 
 loop-holds : tie.Need-loop-holds Inv-loop μ-loop
 loop-holds c = (omega arith, biased-none _ _ _ (c .pre .1))
@@ -37,7 +41,7 @@ shared-slice-copy-out-bias-one c = omega arith
 bias-one-requires : tie.Need-bias-one-requires Inv-loop μ-loop
 bias-one-requires c κs =
     let l = c .before .before in
-    let p = l .before .pre .0 in
+    let p = entered l .pre .0 in
     let w = p .within (l .loop .j) (omega arith) in
     (p .largest, rw (byte-back l (omega arith)) w)
 
@@ -53,9 +57,9 @@ loop-less c = omega arith
 loop-again : tie.Need-loop-again Inv-loop μ-loop
 loop-again c =
     let l = c .before .before .before in
-    let a = l .before .args in (
+    let a = entered l .args in (
       omega arith,
-      biased-step (l .loop .j) (a .middle) (a .levels .now) (a .kept .now) (l .loop .kept) (l .loop .inv .1) (omega (arith, l .before .pre .0 .columns)) (c .bias-one .result)
+      biased-step (l .loop .j) (a .middle) (a .levels .now) (a .kept .now) (l .loop .kept) (l .loop .inv .1) (omega (arith, entered l .pre .0 .columns)) (c .bias-one .result)
           (c .bias-one .ensures ∙ ap (biased (a .middle)) (byte-back l (omega arith))),
     )
 

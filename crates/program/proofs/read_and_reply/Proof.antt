@@ -52,8 +52,8 @@ returns c =
     record {
       got = r .read .result;
       few = omega (arith, r .read .ensures .0, s .pre .want);
-      reply = c .before .before .before .before .before .before
-          .advance .ensures;
+      unread = rw (sym (s .pre .want)) (r .read .ensures .1);
+      advanced = c .before .before .before .before .before .before .advance .ensures;
     }
 
 pub read-and-reply-spec : {M : Type 1} → statement M

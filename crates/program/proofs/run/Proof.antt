@@ -25,7 +25,7 @@ slice-aggregate-print : tie.Need-slice-aggregate-print
 slice-aggregate-print c = search needs
 
 print-requires : tie.Need-print-requires
-print-requires c κs = c .before .before .first .ensures [] .fits
+print-requires c κs = c .before .before .first .ensures [] .reply .fits
 
 slice-aggregate-until-done : tie.Need-slice-aggregate-until-done
 slice-aggregate-until-done c = search needs

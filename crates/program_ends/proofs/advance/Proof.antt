@@ -1,4 +1,5 @@
 -- `program_ends::advance` meets its contract: the reply of each stage. Assumes nothing.
+use mathlib.Core.Path.{refl}
 use Rattle.program_ends.proofs.Replies.{asked-at, replied-at}
 use borrow.Author.Needs.{needs}
 use Rattle.program_ends.proofs.advance.Statement.{statement}
@@ -41,7 +42,7 @@ same-length c = search needs
 returns : tie.Need-returns
 returns c =
     let s = c .before .before .before .before .before .before .before .before .before in
-    replied-at (c .before .before .before .before .enum-told .given .1) (s .args .list .now) (s .args .bytes .now) (c .before .before .after-sizes .ensures _)
+    replied-at (c .before .before .before .before .enum-told .given .1) (s .args .list .now) (s .args .bytes .now) (c .before .before .after-sizes .ensures _) refl
 
 same-length-2 : tie.Need-same-length-2
 same-length-2 c = search needs
@@ -53,7 +54,7 @@ returns-2 : tie.Need-returns-2
 returns-2 c =
     let s = c .before .before .before .before .before .before .before .before .before .before .before .before .before in
     replied-at (c .before .before .before .before .before .before .before .before .stage .given .1) (s .args .list .now) (s .args .bytes .now)
-    (c .before .before .before .before .after-list .ensures)
+    (c .before .before .before .before .after-list .ensures .replied) (c .before .before .before .before .after-list .ensures .list)
 
 same-length-4 : tie.Need-same-length-4
 same-length-4 c = search needs
@@ -65,7 +66,7 @@ returns-3 : tie.Need-returns-3
 returns-3 c =
     let s = c .before .before .before .before .before .before .before .before .before .before .before in
     replied-at (c .before .before .before .before .before .before .stage2 .given .1) (s .args .list .now) (s .args .bytes .now)
-    (c .before .before .after-setting .ensures)
+    (c .before .before .after-setting .ensures) refl
 
 same-length-6 : tie.Need-same-length-6
 same-length-6 c = search needs
@@ -77,7 +78,7 @@ returns-4 : tie.Need-returns-4
 returns-4 c =
     let s = c .before .before .before .before .before .before .before .before .before .before .before in
     replied-at (c .before .before .before .before .before .before .stage3 .given .1) (s .args .list .now) (s .args .bytes .now)
-    (c .before .before .after-blocks .ensures)
+    (c .before .before .after-blocks .ensures) refl
 
 same-length-8 : tie.Need-same-length-8
 same-length-8 c = search needs
@@ -85,7 +86,7 @@ same-length-8 c = search needs
 returns-5 : tie.Need-returns-5
 returns-5 c =
     let s = c .before .before .before .before .before .before .before in
-    replied-at (c .before .before .enum-told2 .given .1) (s .args .list .now) (s .args .bytes .now) (c .ended .ensures _)
+    replied-at (c .before .before .enum-told2 .given .1) (s .args .list .now) (s .args .bytes .now) (record { reply = c .ended .ensures .0 _; rest = refl }) refl
 
 pub advance-spec : {M : Type 1} → statement M
 advance-spec =

@@ -12,7 +12,7 @@ use Rattle.program_lines.specs.Loans.{Countable}
 use Rattle.program_lines.specs.Paper.Blocks.{chunkText}
 use Rattle.program_lines.proofs.BlockLines.{chunk-ends}
 use Rattle.program_ends.specs.Stages.{blocksFrom, ends}
-use Rattle.program_ends.proofs.Replies.{text-alone, replied-as, countable, blocks-last, blocks-more}
+use Rattle.program_ends.proofs.Replies.{text-alone, replied-over, countable, blocks-last, blocks-more}
 use borrow.Author.Needs.{needs}
 use Rattle.program_ends.proofs.after_blocks.Statement.{statement}
 use Rattle.program_ends.proofs.after_blocks.Tie as tie
@@ -91,7 +91,8 @@ returns c =
     let text : take (k .chunk .result) (k .chunk .last .1 .1 .1 .1 .1 .0) ≡ chunkText H S i bs =
     text-alone (k .chunk .ensures) (omega (arith, cnt .room))
     ∙ ap (λ (x : ℕ). chunkText (matrixOf (s .args .shape) (take x list)) S i bs) (e .entries .ensures) in
-    replied-as (ap ends text ∙ blocks-last H S i bs (rw (← o .count) (omega arith))) (c .ended .ensures list)
+    replied-over (k .chunk .ensures) (omega (arith, cnt .room)) (c .ended .ensures .1) (ap ends text ∙ blocks-last H S i bs (rw (← o .count) (omega arith)))
+    (c .ended .ensures .0 list)
 
 cast-at-blocks : tie.Need-cast-at-blocks
 cast-at-blocks c = search needs
@@ -123,7 +124,7 @@ returns-2 c =
     text-alone (k .chunk .ensures) (omega (arith, cnt .room))
     ∙ ap (λ (x : ℕ). chunkText (matrixOf (s .args .shape) (take x list)) S i bs) (e .entries .ensures) in
     let b = c .at-blocks .ensures in
-    replied-as (blocks-more H S i bs (rw (← o .count) (omega arith)))
+    replied-over (k .chunk .ensures) (omega (arith, cnt .room)) (b .2) (blocks-more H S i bs (rw (← o .count) (omega arith)))
     (record {
       awaited = b .0 list ∙ ap (λ (x : ℕ). blocksFrom H S (i + x)) (o .count);
       want = b .1 ∙ ap (λ (x : ℕ). bytesAtOnce (H .n) (i + x)) (o .count);

@@ -7,7 +7,7 @@ use lib.ListN.{length}
 use Rattle.matrix.specs.Paper.Shapes.{matrixOf}
 use Rattle.program_input.proofs.Openings.{few}
 use Rattle.program_ends.specs.Stages.{theSetting, ends}
-use Rattle.program_ends.proofs.Replies.{text-alone, replied-as, list-short, list-whole, entries-front}
+use Rattle.program_ends.proofs.Replies.{text-alone, replied-as, replied-over, list-short, list-whole, kept-short, written-whole, entries-front}
 use borrow.Author.Needs.{needs}
 use Rattle.program_ends.proofs.after_list.Statement.{statement}
 use Rattle.program_ends.proofs.after_list.Tie as tie
@@ -34,8 +34,11 @@ returns c =
     let p = c .before .before .before .before in
     let s = p .before .before .before .before .before .before .before in
     let H = matrixOf (s .args .shape) [] in
-    replied-as (ap ends (text-alone (p .put-short .ensures) (omega (arith, s .pre .room))) ∙ list-short H (s .args .bytes .now) (omega arith))
-    (c .ended .ensures _)
+    record {
+      replied = replied-over (p .put-short .ensures) (omega (arith, s .pre .room)) (c .ended .ensures .1)
+          (ap ends (text-alone (p .put-short .ensures) (omega (arith, s .pre .room))) ∙ list-short H (s .args .bytes .now) (omega arith)) (c .ended .ensures .0 _);
+      list = kept-short H (s .args .bytes .now) _ (omega arith);
+    }
 
 entries-requires-2 : tie.Need-entries-requires-2
 entries-requires-2 c κs =
@@ -51,14 +54,20 @@ returns-2 c =
     let H = matrixOf (s .args .shape) [] in
     let bs = s .args .bytes .now in
     let whole : length bs ≡ 2 * (H .m * H .rho) = omega (arith, s .pre .came) in
-    replied-as (list-whole H bs (omega arith))
-    (record {
-      awaited = ap (λ (l : List _). theSetting (matrixOf (s .args .shape) l))
-          (entries-front (H .m * H .rho) bs (s .args .list .now) (c .before .before .entries2 .ensures) whole);
-      want = refl;
-      text = refl;
-      fits = omega arith;
-    })
+    record {
+      replied = record {
+        reply = replied-as (list-whole H bs (omega arith))
+            (record {
+              awaited = ap (λ (l : List _). theSetting (matrixOf (s .args .shape) l))
+                  (entries-front (H .m * H .rho) bs (s .args .list .now) (c .before .before .entries2 .ensures) whole);
+              want = refl;
+              text = refl;
+              fits = omega arith;
+            });
+        rest = refl;
+      };
+      list = c .before .before .entries2 .ensures ∙ written-whole H bs _ (omega arith);
+    }
 
 pub after-list-spec : {M : Type 1} → statement M
 after-list-spec =

@@ -1,5 +1,5 @@
 -- `program_ends::after_setting` meets its contract. Assumes nothing.
-use mathlib.Core.Path.{sym, ap, _∙_}
+use mathlib.Core.Path.{refl, sym, ap, _∙_}
 use Prim.Native.Nat.{ℕ, _*_}
 use native.Mathlib.Omega.{arith}
 use lib.ListN.{take}
@@ -10,7 +10,7 @@ use Rattle.program_input.specs.Paper.Opening.{opening, openingVerdict}
 use Rattle.program_input.specs.Runs.{openedOf}
 use Rattle.program_input.proofs.Openings.{decodable}
 use Rattle.program_ends.specs.Stages.{ends}
-use Rattle.program_ends.proofs.Replies.{text-alone, replied-as, setting-short, setting-whole, opened-reply}
+use Rattle.program_ends.proofs.Replies.{text-alone, replied-as, replied-over, setting-short, setting-whole, opened-reply}
 use borrow.Author.Needs.{needs}
 use Rattle.program_ends.proofs.after_setting.Statement.{statement}
 use Rattle.program_ends.proofs.after_setting.Tie as tie
@@ -29,8 +29,9 @@ returns c =
     let p = c .before .before .before .before in
     let s = p .before .before .before .before .before .before in
     let H = matrixOf (s .args .shape) (take (s .args .shape .m * s .args .shape .rho) (s .args .list .now)) in
-    replied-as (ap ends (text-alone (p .put-short .ensures) (omega (arith, s .pre .room))) ∙ setting-short H (s .args .bytes .now) (omega arith))
-    (c .ended .ensures _)
+    replied-over (p .put-short .ensures) (omega (arith, s .pre .room)) (c .ended .ensures .1)
+    (ap ends (text-alone (p .put-short .ensures) (omega (arith, s .pre .room))) ∙ setting-short H (s .args .bytes .now) (omega arith))
+    (c .ended .ensures .0 _)
 
 entries-requires : tie.Need-entries-requires
 entries-requires c κs = search needs
@@ -74,13 +75,16 @@ returns-2 c =
     let k = s .args .shape .m * s .args .shape .rho in
     let H = matrixOf (s .args .shape) (take k list) in
     let e = b .begin .ensures ∙ ap (λ (x : ℕ). opening (openingVerdict (matrixOf (s .args .shape) (take x list)) S) S) (b .before .before .entries .ensures) in
-    replied-as (opened-reply H e (ap openedOf (o .before .opened .given .1)) ∙ setting-whole H (s .args .bytes .now) (omega arith))
-    (record {
-      awaited = c .at-blocks .ensures .0 list;
-      want = c .at-blocks .ensures .1;
-      text = ap (λ (x : ℕ). take x (s .args .out .now)) (c .at-blocks .ensures .2);
-      fits = omega (arith, c .at-blocks .ensures .2);
-    })
+    record {
+      reply = replied-as (opened-reply H e (ap openedOf (o .before .opened .given .1)) ∙ setting-whole H (s .args .bytes .now) (omega arith))
+          (record {
+            awaited = c .at-blocks .ensures .0 list;
+            want = c .at-blocks .ensures .1;
+            text = ap (λ (x : ℕ). take x (s .args .out .now)) (c .at-blocks .ensures .2);
+            fits = omega (arith, c .at-blocks .ensures .2);
+          });
+      rest = refl;
+    }
 
 same-length-2 : tie.Need-same-length-2
 same-length-2 c = search needs
@@ -96,11 +100,11 @@ returns-3 c =
     let k = s .args .shape .m * s .args .shape .rho in
     let H = matrixOf (s .args .shape) (take k list) in
     let e = b .begin .ensures ∙ ap (λ (x : ℕ). opening (openingVerdict (matrixOf (s .args .shape) (take x list)) S) S) (b .before .before .entries .ensures) in
-    replied-as
+    replied-over (p .put-refused .ensures) (omega (arith, s .pre .room)) (c .ended2 .ensures .1)
     (ap ends (text-alone (p .put-refused .ensures) (omega (arith, s .pre .room)))
     ∙ opened-reply H e (ap openedOf (o .before .opened2 .given .1))
     ∙ setting-whole H (s .args .bytes .now) (omega arith))
-    (c .ended2 .ensures list)
+    (c .ended2 .ensures .0 list)
 
 pub after-setting-spec : {M : Type 1} → statement M
 after-setting-spec =

@@ -9,7 +9,7 @@ use Rattle.matrix.specs.Paper.Check.{sizesFit}
 use Rattle.matrix.specs.Paper.Shapes.{matrixOf}
 use Rattle.program_input.proofs.Openings.{few}
 use Rattle.program_ends.specs.Stages.{ends, theList, goesOn}
-use Rattle.program_ends.proofs.Replies.{text-alone, replied-as, sizes-short, sizes-refused, sizes-fit}
+use Rattle.program_ends.proofs.Replies.{text-alone, replied-as, replied-over, sizes-short, sizes-refused, sizes-fit}
 use borrow.Author.Needs.{needs}
 use Rattle.program_ends.proofs.after_sizes.Statement.{statement}
 use Rattle.program_ends.proofs.after_sizes.Tie as tie
@@ -27,7 +27,8 @@ returns : tie.Need-returns
 returns c =
     let p = c .before .before .before .before in
     let bs = c .before .before .before .before .before .before .before .before .before .args .bytes .now in
-    λ l. replied-as (ap ends (text-alone (p .put-short .ensures) (omega arith)) ∙ sizes-short bs (omega arith)) (c .ended .ensures l)
+    λ l. replied-over (p .put-short .ensures) (omega arith) (c .ended .ensures .1)
+    (ap ends (text-alone (p .put-short .ensures) (omega arith)) ∙ sizes-short bs (omega arith)) (c .ended .ensures .0 l)
 
 sizes-requires : tie.Need-sizes-requires
 sizes-requires c κs = search needs
@@ -51,7 +52,8 @@ returns-2 c =
     let bs = r .before .before .before .before .before .args .bytes .now in
     let e = ap (λ (f : List ℕ → Matrix). f []) (r .before .sizes .ensures) in
     let off = sym (ap sizesFit e) ∙ not-true _ (sym (r .sizes-refused .ensures) ∙ p .before .before .if2 .taken) in
-    λ l. replied-as (ap ends (text-alone (p .put-refused .ensures) (omega arith)) ∙ sizes-refused bs (omega arith) off) (c .ended2 .ensures l)
+    λ l. replied-over (p .put-refused .ensures) (omega arith) (c .ended2 .ensures .1)
+    (ap ends (text-alone (p .put-refused .ensures) (omega arith)) ∙ sizes-refused bs (omega arith) off) (c .ended2 .ensures .0 l)
 
 entries-requires : tie.Need-entries-requires
 entries-requires c κs =
@@ -69,8 +71,11 @@ returns-3 c =
     let bs = r .before .before .before .before .before .args .bytes .now in
     let e = ap (λ (f : List ℕ → Matrix). f []) (r .before .sizes .ensures) in
     let on = sym (ap sizesFit e) ∙ not-false _ (sym (r .sizes-refused .ensures) ∙ c .before .if2 .left) in
-    λ l. replied-as (ap (λ (H : Matrix). goesOn (theList H)) e ∙ sizes-fit bs (omega arith) on)
-    (record { awaited = refl; want = ap (λ (k : ℕ). 2 * k) (c .entries .ensures); text = refl; fits = omega arith })
+    λ l. record {
+      reply = replied-as (ap (λ (H : Matrix). goesOn (theList H)) e ∙ sizes-fit bs (omega arith) on)
+          (record { awaited = refl; want = ap (λ (k : ℕ). 2 * k) (c .entries .ensures); text = refl; fits = omega arith });
+      rest = refl;
+    }
 
 pub after-sizes-spec : {M : Type 1} → statement M
 after-sizes-spec =
