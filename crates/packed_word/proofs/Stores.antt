@@ -26,7 +26,8 @@ use Rattle.counting.proofs.Writes.{over-more}
 use Rattle.packed_word.specs.Paper.Packed.{bitAt, packedByte}
 use Rattle.packed_word.specs.Steps.{SetBit, FlipBit, Unpacked}
 use Rattle.counting.specs.Digits.{digit}
-use Rattle.packed_word.proofs.Masks.{or-here, or-there, xor-here, xor-there}
+use Rattle.counting.proofs.Digits.{or-here, or-there}
+use Rattle.packed_word.proofs.Masks.{xor-here, xor-there}
 use Rattle.packed_word.proofs.Packed.{ended}
 
 -- ---- one byte of a packed word
