@@ -35,8 +35,8 @@ fn sizes_fit(shape: Shape) -> bool
         & (ones_by_row == ones_by_column)
 }
 
-// The first row that shares two columns or more with a later row, else m.
-// An accepted matrix has none, which `pair_twice` shows soon: the exact search is for a refused one.
+// The first row that shares two columns or more with a later row, else m. Whether there is one, `pair_twice` says soon:
+// the exact search requires one, so an accepted matrix never reaches it.
 fn first_overlap(shape: Shape, list: &[u16]) -> usize
     requires { ⌜ Ordered (matrixOf shape (now list)) ⌝ }
     ensures { λ r. ⌜ r ≡ first (overlapping (matrixOf shape (now (list .entry)))) (shape .m) ⌝ }

@@ -1,2 +1,4 @@
 pub mod Words
+pub mod Gone
 pub mod Marks
+pub mod Overlaps

@@ -1,144 +1,206 @@
--- Laws of rows that are met: words one after the other, rows that are noted, and that a row met once shares at most one column.
---   Gone          == the words f 0 .. f (k - 1): met has their bits, and none twice only where no two of them have one in common
---   gone-none     == no word is looked at yet
---   gone-more     == one word more is looked at
---   wordAt        == word v of the k-th column of row i
---   met-once      == where no bit is met twice in the four words of row i's columns, no row is met at two of these columns
---   RowIn         == row i has its bits in w
---   RowsIn        == the rows of the part below i have theirs
---   ClearTo       == no row of the part has two columns in common with a later row below i
---   clear-more    == where no row is met at two columns of row i, no row of the part shares two columns with a later one up to i
---   rows-more     == with row i noted the rows of the part up to i have their bits
---   part-clear    == where this holds up to the last row the part is clear
---   parts-clear   == where all parts are clear no two rows share two columns
+-- Laws of rows that are noted: which bits the words then have, and that the rows met in them are the part's earlier rows.
+--   row-more       == one column more
+--   noted-in       == where row i is one of the part's, noting it sets the bits for all its columns
+--   noted-out      == where it is not, nothing changes
+--   long-noted     == noting a row keeps the number of words
+--   bit-room       == the bits for a row's columns lie in the words
+--   marks-none     == cleared words have the bits for the part's rows before its first row: none
+--   marks-more     == with row i noted the words have the bits for the part's rows up to i
+--   once-clear     == where no row is met at two columns of row i, row i shares at most one column with each earlier row of the part
+--   clear-once     == and where it does, none is met at two of its columns
 -- Assumes nothing.
-use mathlib.Core.Path.{_≡_, refl, ap₂, subst, _∙_}
+use mathlib.Core.Path.{_≡_, refl, sym, ap, subst, _∙_}
+use mathlib.Core.Bool.{Bool, false, cond, _&&_}
 use mathlib.Core.List.{List}
-use Prim.Native.Nat.{ℕ, zero, suc, _+_, _*_, _/_, _%_, _≤_, _<_}
+use mathlib.Core.Logic.{_⊎_, inl, inr}
+use Prim.Native.Nat.{ℕ, zero, suc, _+_, _*_, _/_, _≤_, _<_}
 use native.Mathlib.Decide.{ℕ-discrete}
+use native.Mathlib.Numerals.{add-one}
 use native.Mathlib.Omega.{arith}
-use borrow.Author.Count.{below-more}
-use lib.Bits.{bitAnd, bitOr}
-use lib.ListN.{getD}
+use borrow.Author.Tests.{leb-true, eqb-true, le-leb, eq-eqb, ne-eqb}
+use lib.Dec.{leb, eqb}
+use lib.ListN.{length}
 use Rattle.counting.specs.Paper.Sum.{sumBelow, same}
-use Rattle.counting.proofs.Sums.{sum-one, sum-pos, same-pos}
+use Rattle.counting.proofs.Sums.{sum-one, sum-two, sum-pos, sum-term, same-pos, same-refl}
+use Rattle.counting.proofs.Searches.{never, cases, and-left, and-right, and-both, any-at, any-none}
 use Rattle.counting.proofs.Ascending.{ascending-once}
 use Rattle.matrix.specs.Paper.Code.{Matrix, entry, has, common}
-use Rattle.matrix.specs.Paper.PlainCheck.{Overlap, Never}
-use Rattle.counting.specs.Digits.{digit}
-use Rattle.matrix_meeting.specs.Marks.{MarksHeld, bitFor, Meets, MetOnce, Noted, PartClear}
-use Rattle.matrix_meeting.specs.declared.Met.{Met}
+use Rattle.matrix.specs.Ordered.{Ordered}
+use Rattle.matrix.proofs.Ordered.{columns-ascend, column-in}
 use Rattle.matrix.proofs.Rows.{common-sym}
-use Rattle.matrix_meeting.proofs.Words.{or-left, or-right, and-none, or-none}
+use Rattle.matrix_meeting.specs.Marks.{MarksHeld, Unmarked, bitFor, marked, rowMarked, noted, RowMark, MarksOf, MetOnce}
+use Rattle.matrix_meeting.specs.Overlaps.{meetsPart}
+use Rattle.matrix_meeting.proofs.Words.{long-marked, marked-here, marked-kept, marked-only, unmarked-none}
 
--- ---- words that are met one after the other
-
--- the words f 0 .. f (k - 1): met has their bits, and none twice only where no two of them have one in common
-pub record Gone (f : ℕ → ℕ) (k : ℕ) (met : Met) : Type 0 where
-  pub all : (q : ℕ) → q < k → (b : ℕ) → digit (f q) b ≡ 1 → digit (met .once) b ≡ 1
-  pub apart : met .twice ≡ 0 → (q q′ : ℕ) → q < q′ → q′ < k → (b : ℕ) → digit (f q) b ≡ 1 → digit (f q′) b ≡ 1 → ⊥
-
-module _ (f : ℕ → ℕ) where
-  -- no word is looked at yet
-  pub gone-none : Gone f 0 (record { once = 0; twice = 0 })
-  gone-none = record { all = λ q l. absurd (omega arith); apart = λ e q q′ l h. absurd (omega arith) }
-
-  -- one word more is looked at
-  pub gone-more : {k x : ℕ} {met met′ : Met} → Gone f k met → x ≡ f k → Meets met x met′ → Gone f (k + 1) met′
-  gone-more {k} {x} {met} {met′} g e m =
-      record {
-        all = below-more (λ (q : ℕ). (b : ℕ) → digit (f q) b ≡ 1 → digit (met′ .once) b ≡ 1) k
-            (λ q l b d. rw (m .all) (or-left (met .once) x b (g .all q l b d))) (λ b d. rw (m .all) (or-right (met .once) x b (rw e d)));
-        apart = λ z q q′ l h b d d′.
-            let none = or-none (met .twice) (bitAnd (met .once) x) (rw (m .again) at z) in
-            elim (ℕ-discrete q′ k) [
-              | yes s ↦ and-none (met .once) x b (none .1) (g .all q (omega arith) b d) (rw (e, ← s) d′)
-              | no ne ↦ g .apart (none .0) q q′ l (omega arith) b d d′
-            ];
-      }
-
--- what holds of 0 to 3
-four : (P : ℕ → Type 0) → P 0 → P 1 → P 2 → P 3 → (v : ℕ) → v < 4 → P v
-four P a b c d zero h = a
-four P a b c d (suc zero) h = b
-four P a b c d (suc (suc zero)) h = c
-four P a b c d (suc (suc (suc zero))) h = d
-four P a b c d (suc (suc (suc (suc v)))) h = absurd (omega arith)
-
--- the bit for column c and row r stands in one of the column's four words
-in-word : (w : List ℕ) (c r : ℕ) → MarksHeld w (bitFor c r) → digit (getD w (c * 4 + r % 256 / 64) 0) (r % 64) ≡ 1
-unfolding MarksHeld
-in-word w c r e =
-    let word : c * 4 + r % 256 / 64 ≡ bitFor c r / 64 = omega arith in
-    let place : r % 64 ≡ bitFor c r % 64 = omega arith in
-    ap₂ (λ (x y : ℕ). digit (getD w x 0) y) word place ∙ e
-
--- word v of the k-th column of row i
-abbrev pub wordAt : Matrix → ℕ → List ℕ → ℕ → ℕ → ℕ
-wordAt H i w v k = getD w (entry H i k * 4 + v) 0
+-- ---- one row that is noted
 
 module _ (H : Matrix) (i : ℕ) (w : List ℕ) where
-  -- where no bit is met twice in the four words of row i's columns, no row is met at two of these columns
-  pub met-once : {k : ℕ} {a b c d : Met} → H .rho ≤ k → Gone (wordAt H i w 0) k a → Gone (wordAt H i w 1) k b → Gone (wordAt H i w 2) k c
-      → Gone (wordAt H i w 3) k d → bitOr (bitOr (bitOr (a .twice) (b .twice)) (c .twice)) (d .twice) ≡ 0 → MetOnce H i w
-  unfolding MetOnce
-  met-once {k} {a} {b} {c} {d} le ga gb gc gd none q q′ l h r e e′ =
-      let abc = or-none (bitOr (bitOr (a .twice) (b .twice)) (c .twice)) (d .twice) none in
-      let ab = or-none (bitOr (a .twice) (b .twice)) (c .twice) (abc .0) in
-      let each = or-none (a .twice) (b .twice) (ab .0) in
-      four Apart (ga .apart (each .0)) (gb .apart (each .1)) (gc .apart (ab .1)) (gd .apart (abc .1)) (r % 256 / 64) (omega arith) q q′ l (omega arith) (r % 64)
-      (in-word w (entry H i q) r e) (in-word w (entry H i q′) r e′)
-    where
-      Apart : ℕ → Type 0
-      Apart v =
-          (q q′ : ℕ) → q < q′ → q′ < k → (b : ℕ) → digit (wordAt H i w v q) b ≡ 1 → digit (wordAt H i w v q′) b ≡ 1 → ⊥
+  -- setting bits for a row keeps the number of words
+  long-row : (k : ℕ) → length (rowMarked H i k w) ≡ length w
+  unfolding rowMarked
+  long-row zero = refl
+  long-row (suc k) = long-marked (bitFor (entry H i k) i) (rowMarked H i k w) ∙ long-row k
 
--- ---- rows that are noted
+  -- one column more
+  pub row-more : (k c : ℕ) (v v′ : List ℕ) → c ≡ entry H i k → v ≡ rowMarked H i k w → v′ ≡ marked (bitFor c i) v → v′ ≡ rowMarked H i (k + 1) w
+  unfolding rowMarked
+  row-more k c v v′ e p q = rw (q, p, e, add-one k)
+
+  -- where row i is one of the part's, noting it sets the bits for all its columns
+  pub noted-in : (part : ℕ) → i / 256 ≡ part → noted H part i w ≡ rowMarked H i (H .rho) w
+  unfolding noted
+  noted-in part e = ap (λ (t : Bool). cond t (rowMarked H i (H .rho) w) w) (eq-eqb (i / 256) part e)
+
+  -- where it is not, nothing changes
+  pub noted-out : (part : ℕ) → (i / 256 ≡ part → ⊥) → noted H part i w ≡ w
+  unfolding noted
+  noted-out part ne = ap (λ (t : Bool). cond t (rowMarked H i (H .rho) w) w) (ne-eqb (i / 256) part ne)
+
+  -- noting a row keeps the number of words
+  pub long-noted : (part : ℕ) (w′ : List ℕ) → w′ ≡ noted H part i w → length w′ ≡ length w
+  long-noted part w′ is =
+      elim (ℕ-discrete (i / 256) part)
+      [ yes e ↦ ap length (is ∙ noted-in part e) ∙ long-row (H .rho) | no ne ↦ ap length (is ∙ noted-out part ne) ]
+
+  -- the bits for a row's columns lie in the words
+  pub bit-room : Ordered H → i < H .m → H .n * 4 ≤ length w → (k : ℕ) → k < H .rho → bitFor (entry H i k) i / 64 < length w
+  bit-room o l long k h = omega (arith, column-in o i k l h)
+
+  module _ (room : (k : ℕ) → k < H .rho → bitFor (entry H i k) i / 64 < length w) where
+    fits : (k : ℕ) → k < H .rho → bitFor (entry H i k) i / 64 < length (rowMarked H i k w)
+    fits k h = omega (arith, room k h, long-row k)
+
+    -- the bits after the first k columns: those before, those for the columns, and no others
+    row-kept : (k : ℕ) → k ≤ H .rho → (x : ℕ) → MarksHeld w x → MarksHeld (rowMarked H i k w) x
+    unfolding rowMarked
+    row-kept zero h x m = m
+    row-kept (suc k) h x m =
+        marked-kept (bitFor (entry H i k) i) (rowMarked H i k w) (fits k h) x (row-kept k (omega arith) x m)
+
+    row-here : (k : ℕ) → k ≤ H .rho → (q : ℕ) → q < k → MarksHeld (rowMarked H i k w) (bitFor (entry H i q) i)
+    unfolding rowMarked
+    row-here zero h q l = absurd (omega arith)
+    row-here (suc k) h q l =
+        elim (ℕ-discrete q k) [
+          | yes e ↦ rw e (marked-here (bitFor (entry H i k) i) (rowMarked H i k w) (fits k h))
+          | no ne ↦
+              marked-kept (bitFor (entry H i k) i) (rowMarked H i k w) (fits k h) (bitFor (entry H i q) i)
+              (row-here k (omega arith) q (omega arith))
+        ]
+
+    row-only : (k : ℕ) → k ≤ H .rho → (x : ℕ) → MarksHeld (rowMarked H i k w) x
+        → MarksHeld w x ⊎ ((q : ℕ) × (q < k) × (x ≡ bitFor (entry H i q) i))
+    unfolding rowMarked
+    row-only zero h x m = inl m
+    row-only (suc k) h x m =
+        elim (marked-only (bitFor (entry H i k) i) (rowMarked H i k w) (fits k h) x m) [
+          | inl y ↦
+              elim (row-only k (omega arith) x y)
+              [ inl z ↦ inl z | inr z ↦ inr (z .0, omega (arith, z .1), z .2) ]
+          | inr e ↦ inr (k, omega arith, e)
+        ]
+
+-- ---- the part's rows, one after the other
+
+module _ (H : Matrix) (part i : ℕ) (w : List ℕ) where
+  -- before the part's first row there are no bits
+  pub marks-none : i ≤ part * 256 → Unmarked w → MarksOf H part i w
+  marks-none h z =
+      record {
+        each = λ x m. absurd (omega (arith, m .early, m .mine));
+        only = λ x m. absurd (unmarked-none w z x m);
+      }
+
+  later : {x : ℕ} → RowMark H part i x → RowMark H part (i + 1) x
+  later m =
+      record { row = m .row; place = m .place; early = omega (arith, m .early); mine = m .mine; inside = m .inside; is = m .is }
+
+  earlier : {x : ℕ} (m : RowMark H part (i + 1) x) → (m .row ≡ i → ⊥) → RowMark H part i x
+  earlier m ne =
+      record { row = m .row; place = m .place; early = omega (arith, m .early); mine = m .mine; inside = m .inside; is = m .is }
+
+  module _ (room : (k : ℕ) → k < H .rho → bitFor (entry H i k) i / 64 < length w) (s : MarksOf H part i w) where
+    more-in : i / 256 ≡ part → MarksOf H part (i + 1) (rowMarked H i (H .rho) w)
+    more-in e =
+        record {
+          each = λ x m.
+              elim (ℕ-discrete (m .row) i) [
+                | yes y ↦
+                    let at : x ≡ bitFor (entry H i (m .place)) i = m .is ∙ ap (λ (r : ℕ). bitFor (entry H r (m .place)) r) y in
+                    rw at (row-here H i w room (H .rho) (omega arith) (m .place) (m .inside))
+                | no ne ↦ row-kept H i w room (H .rho) (omega arith) x (s .each x (earlier m ne))
+              ];
+          only = λ x m.
+              elim (row-only H i w room (H .rho) (omega arith) x m) [
+                | inl y ↦ later (s .only x y)
+                | inr y ↦ record { row = i; place = y .0; early = omega arith; mine = e; inside = y .1; is = y .2 }
+              ];
+        }
+
+    more-out : (i / 256 ≡ part → ⊥) → MarksOf H part (i + 1) w
+    more-out ne =
+        record {
+          each = λ x m. s .each x (earlier m (λ y. ne (sym (ap (λ (r : ℕ). r / 256) y) ∙ m .mine)));
+          only = λ x m. later (s .only x m);
+        }
+
+    -- with row i noted the words have the bits for the part's rows up to i
+    pub marks-more : (w′ : List ℕ) → w′ ≡ noted H part i w → MarksOf H part (i + 1) w′
+    marks-more w′ is =
+        elim (ℕ-discrete (i / 256) part) [
+          | yes e ↦ subst (MarksOf H part (i + 1)) (sym (is ∙ noted-in H i w part e)) (more-in e)
+          | no ne ↦ subst (MarksOf H part (i + 1)) (sym (is ∙ noted-out H i w part ne)) (more-out ne)
+        ]
+
+-- ---- rows that are met
 
 module _ (H : Matrix) where
-  -- row i has its bits
-  abbrev pub RowIn : List ℕ → ℕ → Type 0
-  RowIn w i = (k : ℕ) → k < H .rho → MarksHeld w (bitFor (entry H i k) i)
+  -- a row that has a column
+  has-at : (x k c : ℕ) → k < H .rho → c ≡ entry H x k → 0 < has H x c
+  unfolding has
+  has-at x k c h e =
+      omega (arith, sum-term (H .rho) (λ q. same (entry H x q) c) k h, ap (same (entry H x k)) e, same-refl (entry H x k))
 
-  -- the rows of the part below i have theirs
-  abbrev pub RowsIn : ℕ → ℕ → List ℕ → Type 0
-  RowsIn part i w = (x : ℕ) → x < i → x / 256 ≡ part → RowIn w x
+  -- a row that is noted and met once
+  shares-one : Ordered H → (w : List ℕ) (x i : ℕ) → x < H .m → ((k : ℕ) → k < H .rho → MarksHeld w (bitFor (entry H x k) x)) → MetOnce H i w
+      → common H x i ≤ 1
+  unfolding common has MetOnce
+  shares-one o w x i l row once =
+      subst (λ (y : ℕ). y ≤ 1) (common-sym H i x)
+      (sum-one (H .rho) (λ k. has H x (entry H i k)) (λ k _. ascending-once (entry H x) (H .rho) (λ y. columns-ascend o x y l) (entry H i k))
+      (λ k k′ lt b p p′. once k k′ lt b x (found k p) (found k′ p′)))
+    where
+      found : (k : ℕ) → 0 < sumBelow (H .rho) (λ q. same (entry H x q) (entry H i k)) → MarksHeld w (bitFor (entry H i k) x)
+      found k p =
+          let f = sum-pos (H .rho) (λ q. same (entry H x q) (entry H i k)) p in
+          subst (λ (c : ℕ). MarksHeld w (bitFor c x)) (same-pos (entry H x (f .0)) (entry H i k) (f .2)) (row (f .0) (f .1))
 
-  -- no row of the part has two columns in common with a later row below i
-  abbrev pub ClearTo : ℕ → ℕ → Type 0
-  ClearTo part i = (x′ : ℕ) → x′ < i → (x : ℕ) → x < x′ → x / 256 ≡ part → common H x x′ ≤ 1
+  module _ (o : Ordered H) (part i : ℕ) (w : List ℕ) (l : i < H .m) (s : MarksOf H part i w) where
+    -- where no row is met at two columns of row i it shares at most one column with each earlier row of the part
+    pub once-clear : MetOnce H i w → meetsPart H part i ≡ false
+    unfolding meetsPart
+    once-clear once =
+        any-none (λ x. eqb (x / 256) part && leb 2 (common H x i)) i (λ x lt.
+        cases (eqb (x / 256) part && leb 2 (common H x i)) (λ y.
+        let two : 2 ≤ common H x i = leb-true 2 (common H x i) (and-right (eqb (x / 256) part) (leb 2 (common H x i)) y) in
+        let e : x / 256 ≡ part = eqb-true (x / 256) part (and-left (eqb (x / 256) part) (leb 2 (common H x i)) y) in
+        let row : (k : ℕ) → k < H .rho → MarksHeld w (bitFor (entry H x k) x) =
+        λ k h. s .each (bitFor (entry H x k) x) record { row = x; place = k; early = lt; mine = e; inside = h; is = refl } in
+        absurd (omega (arith, shares-one o w x i (omega arith) row once))) (λ n. n))
 
-  module _ (up : (i k : ℕ) → i < H .m → suc k < H .rho → entry H i k < entry H i (suc k)) where
-    -- a row that is noted and met once
-    shares-one : (w : List ℕ) (i i′ : ℕ) → i < H .m → RowIn w i → MetOnce H i′ w → common H i i′ ≤ 1
-    unfolding common has MetOnce
-    shares-one w i i′ l row once =
-        subst (λ (x : ℕ). x ≤ 1) (common-sym H i′ i)
-        (sum-one (H .rho) (λ k. has H i (entry H i′ k)) (λ k _. ascending-once (entry H i) (H .rho) (λ x. up i x l) (entry H i′ k))
-        (λ k k′ lt b p p′. once k k′ lt b i (found k p) (found k′ p′)))
-      where
-        found : (k : ℕ) → 0 < sumBelow (H .rho) (λ q. same (entry H i q) (entry H i′ k)) → MarksHeld w (bitFor (entry H i′ k) i)
-        found k p =
-            let f = sum-pos (H .rho) (λ q. same (entry H i q) (entry H i′ k)) p in
-            subst (λ (c : ℕ). MarksHeld w (bitFor c i)) (same-pos (entry H i (f .0)) (entry H i′ k) (f .2)) (row (f .0) (f .1))
-
-    -- one row more
-    pub clear-more : (part i : ℕ) (w : List ℕ) → i < H .m → RowsIn part i w → MetOnce H i w → ClearTo part i → ClearTo part (i + 1)
-    clear-more part i w l rows once clear =
-        below-more (λ (x′ : ℕ). (x : ℕ) → x < x′ → x / 256 ≡ part → common H x x′ ≤ 1) i clear
-        (λ x lt e. shares-one w x i (omega arith) (rows x lt e) once)
-
-  -- with row i noted the rows of the part up to i have their bits
-  pub rows-more : (part i : ℕ) (w w′ : List ℕ) → Noted H part i w w′ → RowsIn part i w → RowsIn part (i + 1) w′
-  rows-more part i w w′ n rows =
-      below-more (λ (x : ℕ). x / 256 ≡ part → RowIn w′ x) i (λ x l e k h. n .kept (bitFor (entry H x k) x) (rows x l e k h)) (n .here)
-
-  -- where this holds up to the last row the part is clear
-  pub part-clear : (part : ℕ) → ClearTo part (H .m) → PartClear H part
-  unfolding PartClear
-  part-clear part clear i e o = omega (arith, clear (o .0) (o .2) i (o .1) e, o .3)
-
-  -- where all parts are clear no two rows share two columns
-  pub parts-clear : (part : ℕ) → H .m ≤ part * 256 → ((p : ℕ) → p < part → PartClear H p) → Never (Overlap H) (H .m)
-  unfolding PartClear
-  parts-clear part le clear i l o = clear (i / 256) (omega arith) i refl o
+    -- and where it does none is met at two of its columns
+    pub clear-once : meetsPart H part i ≡ false → MetOnce H i w
+    unfolding MetOnce meetsPart common
+    clear-once f q q′ lt h r e e′ =
+        let a = s .only (bitFor (entry H i q) r) e in
+        let b = s .only (bitFor (entry H i q′) r) e′ in
+        let x = a .row in
+        let row : b .row ≡ x = omega (arith, a .is, b .is, a .mine, b .mine) in
+        let col : entry H i q ≡ entry H x (a .place) = omega (arith, a .is) in
+        let col′ : entry H i q′ ≡ entry H x (b .place) = subst (λ (y : ℕ). entry H i q′ ≡ entry H y (b .place)) row (omega (arith, b .is)) in
+        let p = has-at x (a .place) (entry H i q) (a .inside) col in
+        let p′ = has-at x (b .place) (entry H i q′) (b .inside) col′ in
+        let two : 2 ≤ common H i x = sum-two (H .rho) (λ k. has H x (entry H i k)) q q′ (omega arith) h (λ z. omega arith) p p′ in
+        let shared : 2 ≤ common H x i = subst (λ (y : ℕ). 2 ≤ y) (common-sym H i x) two in
+        never (sym (any-at (λ y. eqb (y / 256) part && leb 2 (common H y i)) i x (a .early)
+        (and-both (eqb (x / 256) part) (leb 2 (common H x i)) (eq-eqb (x / 256) part (a .mine)) (le-leb 2 (common H x i) shared))) ∙ f)

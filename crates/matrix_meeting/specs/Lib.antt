@@ -1,2 +1,3 @@
 -- What the contracts of `matrix_meeting` cite.
 pub mod Marks
+pub mod Overlaps

@@ -1,15 +1,14 @@
-// Refusal 5 in one pass: false says that no two rows have two columns in common. What true says is not proved: the exact search decides then.
+// Refusal 5 in one pass: whether two rows have two columns in common. Which rows they are, the exact search of `matrix_overlap` finds.
 // Rests on `matrix`. Document 01: "Refused for the input" 5.
 use matrix::Shape;
 use matrix::column;
 ghost use mathlib.Core.Path.{_≡_};
-ghost use mathlib.Core.Bool.{false};
 ghost use Prim.Native.Nat.{_+_, _*_, _<_, _≤_};
 ghost use lib.ListN.{length, getD};
 ghost use Rattle.matrix.specs.Ordered.{Ordered};
-ghost use Rattle.matrix.specs.Paper.PlainCheck.{Overlap, Never};
 ghost use Rattle.matrix.specs.Paper.Shapes.{matrixOf};
-ghost use Rattle.matrix_meeting.specs.Marks.{Meets, MetOnce, bitFor, Grown, Noted, PartClear};
+ghost use Rattle.matrix_meeting.specs.Marks.{Meets, MetZero, Unmarked, bitFor, marked, noted};
+ghost use Rattle.matrix_meeting.specs.Overlaps.{RowsSeen, partOverlaps, hasOverlap};
 
 // The bits that were met in one word after another, and those of them that were met twice.
 struct Met {
@@ -30,10 +29,10 @@ fn meet(met: Met, seen: &[u64], at: usize) -> Met
 }
 
 // Meets the rows seen in the columns of row i: each column has four words, one bit for each row of a part.
-// The answer is 0 where no row is met twice, so none has two columns of row i.
+// The answer is 0 where no row is met twice, so none has two columns of row i, and only there.
 fn met_twice(shape: Shape, list: &[u16], i: usize, seen: &[u64]) -> u64
     requires { ⌜ Ordered (matrixOf shape (now list)) × (i < shape .m) × (shape .n * 4 ≤ length (now seen)) ⌝ }
-    ensures { λ r. ⌜ (r ≡ 0 → MetOnce (matrixOf shape (now (list .entry))) i (now (seen .entry))) ⌝ }
+    ensures { λ r. ⌜ MetZero (matrixOf shape (now (list .entry))) i (now (seen .entry)) r ⌝ }
 {
     let rho = shape.rho as usize;
     let mut a = Met { once: 0, twice: 0 };
@@ -55,7 +54,7 @@ fn met_twice(shape: Shape, list: &[u16], i: usize, seen: &[u64]) -> u64
 // Notes that row i has column c.
 fn note(seen: &mut [u64], c: usize, i: usize)
     requires { ⌜ c * 4 + 3 < length (now seen) ⌝ }
-    ensures { λ _. ⌜ Grown (bitFor c i) (now (seen .entry)) (now (seen .exit)) ⌝ }
+    ensures { λ _. ⌜ now (seen .exit) ≡ marked (bitFor c i) (now (seen .entry)) ⌝ }
 {
     let at = c * 4 + i / 64 % 4;
     seen[at] = seen[at] | (1 << (i % 64));
@@ -64,7 +63,7 @@ fn note(seen: &mut [u64], c: usize, i: usize)
 // Notes the columns of row i, where it is one of the part's 256 rows.
 fn note_row(shape: Shape, list: &[u16], part: usize, i: usize, seen: &mut [u64])
     requires { ⌜ Ordered (matrixOf shape (now list)) × (i < shape .m) × (shape .n * 4 ≤ length (now seen)) ⌝ }
-    ensures { λ _. ⌜ Noted (matrixOf shape (now (list .entry))) part i (now (seen .entry)) (now (seen .exit)) ⌝ }
+    ensures { λ _. ⌜ now (seen .exit) ≡ noted (matrixOf shape (now (list .entry))) part i (now (seen .entry)) ⌝ }
 {
     let rho = shape.rho as usize;
     if i / 256 != part {
@@ -77,11 +76,10 @@ fn note_row(shape: Shape, list: &[u16], part: usize, i: usize, seen: &mut [u64])
     }
 }
 
-// Whether a row of the part is met twice by a later row. What is seen already may be any bits: they can make
-// the answer true, not false.
+// Whether a row of the part is met twice by a later row, in words that are lent cleared.
 fn rows_twice(shape: Shape, list: &[u16], part: usize, seen: &mut [u64]) -> bool
-    requires { ⌜ Ordered (matrixOf shape (now list)) × (part * 256 < shape .m) × (shape .n * 4 ≤ length (now seen)) ⌝ }
-    ensures { λ r. ⌜ (r ≡ false → PartClear (matrixOf shape (now (list .entry))) part) ⌝ }
+    requires { ⌜ Ordered (matrixOf shape (now list)) × (part * 256 < shape .m) × (shape .n * 4 ≤ length (now seen)) × Unmarked (now seen) ⌝ }
+    ensures { λ r. ⌜ RowsSeen (matrixOf shape (now (list .entry))) part (now (seen .entry)) (now (seen .exit)) r ⌝ }
 {
     let m = shape.m as usize;
     let mut i = part * 256;
@@ -98,7 +96,7 @@ fn rows_twice(shape: Shape, list: &[u16], part: usize, seen: &mut [u64]) -> bool
 // The same in memory of its own. Few columns get less of it, since clearing it takes longer than their search.
 fn part_twice(shape: Shape, list: &[u16], part: usize) -> bool
     requires { ⌜ Ordered (matrixOf shape (now list)) × (part * 256 < shape .m) ⌝ }
-    ensures { λ r. ⌜ (r ≡ false → PartClear (matrixOf shape (now (list .entry))) part) ⌝ }
+    ensures { λ r. ⌜ r ≡ partOverlaps (matrixOf shape (now (list .entry))) part ⌝ }
 {
     if shape.n <= 256 {
         let mut few = [0u64; 1024];
@@ -108,12 +106,12 @@ fn part_twice(shape: Shape, list: &[u16], part: usize) -> bool
     rows_twice(shape, list, part, &mut all)
 }
 
-// Looks for a pair of columns that is met twice: false says that no two rows share two columns.
+// Whether a pair of columns is met twice, so whether two rows share two columns.
 // The rows are taken in parts of 256: what is seen of one part stays in the nearest cache, of all rows it does not.
 // Only this repository's crates call it, after asking refusals 1 to 3.
 pub fn pair_twice(shape: Shape, list: &[u16]) -> bool
     requires { ⌜ Ordered (matrixOf shape (now list)) ⌝ }
-    ensures { λ r. ⌜ (r ≡ false → Never (Overlap (matrixOf shape (now (list .entry)))) (shape .m)) ⌝ }
+    ensures { λ r. ⌜ r ≡ hasOverlap (matrixOf shape (now (list .entry))) ⌝ }
 {
     let m = shape.m as usize;
     let mut part = 0;

@@ -1,4 +1,4 @@
-// Refusal 5: the search over all pairs of rows for the first that shares two columns with a later one.
+// Refusal 5: the search over all pairs of rows for the first that shares two columns with a later one, in a matrix that has one.
 // Rests on `matrix`. Document 01: "Refused for the input" 5.
 use matrix::Shape;
 use matrix::column;
@@ -60,10 +60,10 @@ fn row_overlaps(shape: Shape, list: &[u16], i: usize) -> bool
     false
 }
 
-// The first row that shares two columns or more with a later row, else m: all pairs of rows are compared.
-// Only this repository's crates call it, after asking refusals 1 to 3.
+// The first row that shares two columns or more with a later row: all pairs of rows are compared. Only a matrix that has
+// such rows is searched. Only this repository's crates call it, after asking refusals 1 to 3.
 pub fn exact_overlap(shape: Shape, list: &[u16]) -> usize
-    requires { ⌜ Ordered (matrixOf shape (now list)) ⌝ }
+    requires { ⌜ Ordered (matrixOf shape (now list)) × (first (overlapping (matrixOf shape (now list))) (shape .m) < shape .m) ⌝ }
     ensures { λ r. ⌜ r ≡ first (overlapping (matrixOf shape (now (list .entry)))) (shape .m) ⌝ }
 {
     let m = shape.m as usize;

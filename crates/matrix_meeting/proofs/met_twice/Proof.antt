@@ -5,7 +5,7 @@ use native.Mathlib.Omega.{arith}
 use lib.ListN.{getD}
 use Rattle.matrix.specs.Paper.Code.{entry}
 use Rattle.matrix.specs.Paper.Shapes.{matrixOf}
-use Rattle.matrix_meeting.proofs.Marks.{Gone, wordAt, gone-none, gone-more, met-once}
+use Rattle.matrix_meeting.proofs.Gone.{Gone, wordAt, gone-none, gone-more, met-zero}
 use Rattle.matrix_meeting.proofs.met_twice.Statement.{statement}
 use Rattle.matrix_meeting.proofs.met_twice.Tie as tie
 
@@ -78,8 +78,12 @@ loop-again c =
 returns : tie.Need-returns Inv-loop μ-loop
 returns c =
     let a = c .before .before .before .before .before .before .before .before .before .args in
+    let H = matrixOf (a .shape) (a .list .now) in
     let l = c .before .before .before .before .before .loop in
-    met-once (matrixOf (a .shape) (a .list .now)) (a .i) (a .seen .now) (omega arith) (l .inv .1) (l .inv .2) (l .inv .3) (l .inv .4)
+    let e : l .k ≡ a .shape .rho = omega arith in
+    met-zero H (a .i) (a .seen .now) (rw e at (l .inv .1)) (rw e at (l .inv .2)) (rw e at (l .inv .3)) (rw e at (l .inv .4))
+    (omega (arith, c .before .before .before .struct-known2 .given)) (omega (arith, c .before .before .struct-known3 .given))
+    (omega (arith, c .before .struct-known4 .given)) (omega (arith, c .struct-known5 .given))
 
 pub met-twice-spec : {M : Type 1} → statement M
 met-twice-spec =

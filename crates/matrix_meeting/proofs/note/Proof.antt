@@ -1,9 +1,8 @@
 -- `matrix_meeting::note` meets its contract. Assumes nothing.
-use mathlib.Core.Path.{_≡_}
-use Prim.Native.Nat.{_+_, _*_, _/_, _%_}
+use Prim.Native.Nat.{_%_}
 use native.Mathlib.Omega.{arith}
 use Rattle.matrix_meeting.specs.Marks.{bitFor}
-use Rattle.matrix_meeting.proofs.Words.{grown, shifted}
+use Rattle.matrix_meeting.proofs.Words.{marked-is, shifted}
 use borrow.Author.Needs.{needs}
 use Rattle.matrix_meeting.proofs.note.Statement.{statement}
 use Rattle.matrix_meeting.proofs.note.Tie as tie
@@ -36,9 +35,7 @@ returns : tie.Need-returns
 returns c =
     let a = c .before .args in
     let x = bitFor (a .c) (a .i) in
-    let word : a .c * 4 + a .i / 64 % 4 ≡ x / 64 = omega arith in
-    let place : x % 64 ≡ a .i % 64 = omega arith in
-    rw word (grown x _ (a .seen .now) (omega (arith, c .before .pre)) (rw place (shifted (a .i % 64) (omega arith))))
+    marked-is x (a .seen .now) _ _ (omega arith) (shifted _ _ (x % 64) (omega arith) (omega arith) (omega arith))
 
 pub note-spec : {M : Type 1} → statement M
 note-spec =

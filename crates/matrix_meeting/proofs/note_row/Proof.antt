@@ -1,19 +1,18 @@
--- `matrix_meeting::note_row` meets its contract. The loop's invariant: bits are kept, and the columns passed are noted. Assumes nothing.
-use mathlib.Core.Path.{_≡_, refl, subst, _∙_}
-use Prim.Native.Nat.{ℕ, _-_, _≤_, _<_}
+-- `matrix_meeting::note_row` meets its contract. The loop's invariant: the bits for the columns passed are set, and no others. Assumes nothing.
+use mathlib.Core.Path.{_≡_, refl, sym, ap, _∙_}
+use Prim.Native.Nat.{ℕ, _-_, _≤_}
 use native.Mathlib.Omega.{arith}
-use borrow.Author.Count.{below-more}
 use lib.ListN.{length}
-use Rattle.matrix.specs.Paper.Code.{entry}
 use Rattle.matrix.specs.Paper.Shapes.{matrixOf}
-use Rattle.matrix_meeting.specs.Marks.{MarksHeld, bitFor}
+use Rattle.matrix_meeting.specs.Marks.{bitFor, rowMarked}
+use Rattle.matrix_meeting.proofs.Words.{long-marked}
+use Rattle.matrix_meeting.proofs.Marks.{row-more, noted-in, noted-out}
 use Rattle.matrix_meeting.proofs.note_row.Statement.{statement}
 use Rattle.matrix_meeting.proofs.note_row.Tie as tie
 
 abbrev Inv-loop : tie.InvT-loop
 Inv-loop shape list part i seen₀ rho k₀ seen k =
-    (k ≤ rho) × (length seen ≡ length seen₀) × ((x : ℕ) → MarksHeld seen₀ x → MarksHeld seen x)
-    × ((q : ℕ) → q < k → MarksHeld seen (bitFor (entry (matrixOf shape list) i q) i))
+    (k ≤ rho) × (length seen ≡ length seen₀) × (seen ≡ rowMarked (matrixOf shape list) i k seen₀)
 
 abbrev μ-loop : tie.MeasureT-loop
 μ-loop shape list part i seen₀ rho k₀ seen k = rho - k
@@ -22,10 +21,13 @@ cast-rho : tie.Need-cast-rho Inv-loop μ-loop
 cast-rho c = omega arith
 
 returns : tie.Need-returns Inv-loop μ-loop
-returns c = record { long = refl; kept = λ x h. h; here = λ e. absurd (c .if1 .taken e) }
+returns c =
+    let a = c .before .before .before .before .args in
+    sym (noted-out (matrixOf (a .shape) (a .list .now)) (a .i) (a .seen .now) (a .part) (c .if1 .taken))
 
 loop-holds : tie.Need-loop-holds Inv-loop μ-loop
-loop-holds c = (omega arith, refl, λ x h. h, λ q l. absurd (omega arith))
+unfolding rowMarked
+loop-holds c = (omega arith, refl, refl)
 
 column-requires : tie.Need-column-requires Inv-loop μ-loop
 column-requires c κs =
@@ -46,12 +48,11 @@ loop-again c =
     let a = c .before .before .before .before .before .before .before .before .before .before .before .args in
     let H = matrixOf (a .shape) (a .list .now) in
     let l = c .before .before .before .before .before .before .loop in
-    let n = c .before .before .note in (
+    let n = c .before .before .note in
+    let col = c .before .before .before .column in (
       omega arith,
-      n .ensures .long ∙ l .inv .1,
-      λ x h. n .ensures .kept x (l .inv .2 x h),
-      below-more (λ (q : ℕ). MarksHeld (n .last .0) (bitFor (entry H (a .i) q) (a .i))) (l .k) (λ q h. n .ensures .kept _ (l .inv .3 q h))
-          (subst (λ (x : ℕ). MarksHeld (n .last .0) (bitFor x (a .i))) (c .before .before .before .column .ensures .is) (n .ensures .here)),
+      ap length (n .ensures) ∙ long-marked (bitFor (col .result) (a .i)) (l .seen) ∙ l .inv .1,
+      row-more H (a .i) (a .seen .now) (l .k) (col .result) (l .seen) (n .last .0) (col .ensures .is) (l .inv .2) (n .ensures),
     )
 
 same-length : tie.Need-same-length Inv-loop μ-loop
@@ -59,8 +60,11 @@ same-length c = c .before .loop .inv .1
 
 returns-2 : tie.Need-returns-2 Inv-loop μ-loop
 returns-2 c =
+    let a = c .before .before .before .before .before .before .args in
+    let H = matrixOf (a .shape) (a .list .now) in
     let l = c .before .loop in
-    record { long = l .inv .1; kept = l .inv .2; here = λ e k h. l .inv .3 k (omega arith) }
+    let e : l .k ≡ a .shape .rho = omega arith in
+    l .inv .2 ∙ ap (λ (k : ℕ). rowMarked H (a .i) k (a .seen .now)) e ∙ sym (noted-in H (a .i) (a .seen .now) (a .part) (c .before .before .if1 .left))
 
 pub note-row-spec : {M : Type 1} → statement M
 note-row-spec =

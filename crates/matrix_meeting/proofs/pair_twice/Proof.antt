@@ -1,18 +1,19 @@
 -- `matrix_meeting::pair_twice` meets its contract.
 -- The loop's invariant: no row of the parts passed has two columns in common with a later row. Assumes nothing.
+use mathlib.Core.Path.{_≡_, sym, _∙_}
+use mathlib.Core.Bool.{false}
 use Prim.Native.Nat.{ℕ, _-_, _≤_, _<_}
 use native.Mathlib.Omega.{arith}
 use borrow.Author.Count.{below-more}
-use Rattle.counting.proofs.Searches.{never}
 use Rattle.matrix.specs.Paper.Shapes.{matrixOf}
-use Rattle.matrix_meeting.specs.Marks.{PartClear}
-use Rattle.matrix_meeting.proofs.Marks.{parts-clear}
+use Rattle.matrix_meeting.specs.Overlaps.{partOverlaps}
+use Rattle.matrix_meeting.proofs.Overlaps.{part-some, parts-none}
 use Rattle.matrix_meeting.proofs.pair_twice.Statement.{statement}
 use Rattle.matrix_meeting.proofs.pair_twice.Tie as tie
 
 abbrev Inv-loop : tie.InvT-loop
 Inv-loop shape list m part₀ part =
-    (part ≤ m) × ((p : ℕ) → p < part → PartClear (matrixOf shape list) p)
+    (part ≤ m) × ((p : ℕ) → p < part → partOverlaps (matrixOf shape list) p ≡ false)
 
 abbrev μ-loop : tie.MeasureT-loop
 μ-loop shape list m part₀ part = m - part
@@ -30,7 +31,10 @@ part-twice-requires : tie.Need-part-twice-requires Inv-loop μ-loop
 part-twice-requires c κs = (c .before .before .before .before .pre, omega arith)
 
 returns : tie.Need-returns Inv-loop μ-loop
-returns c = λ e. absurd (never e)
+returns c =
+    let a = c .before .before .before .before .before .before .args in
+    let l = c .before .before .before .loop in
+    sym (part-some (matrixOf (a .shape) (a .list .now)) (l .part) (sym (c .before .part-twice .ensures) ∙ c .if1 .taken))
 
 add-part : tie.Need-add-part Inv-loop μ-loop
 add-part c = omega arith
@@ -40,15 +44,14 @@ loop-less c = omega arith
 
 loop-again : tie.Need-loop-again Inv-loop μ-loop
 loop-again c =
-    let a = c .before .before .before .before .before .before .args in
     let l = c .before .before .before .loop in
-    (omega arith, below-more (PartClear (matrixOf (a .shape) (a .list .now))) (l .part) (l .inv .1) (c .before .part-twice .ensures (c .if1 .left)))
+    (omega arith, below-more _ (l .part) (l .inv .1) (sym (c .before .part-twice .ensures) ∙ c .if1 .left))
 
 returns-2 : tie.Need-returns-2 Inv-loop μ-loop
 returns-2 c =
     let a = c .before .before .before .before .args in
     let l = c .before .loop in
-    λ _. parts-clear (matrixOf (a .shape) (a .list .now)) (l .part) (omega arith) (l .inv .1)
+    sym (parts-none (matrixOf (a .shape) (a .list .now)) (l .part) (omega arith) (l .inv .1))
 
 pub pair-twice-spec : {M : Type 1} → statement M
 pair-twice-spec =

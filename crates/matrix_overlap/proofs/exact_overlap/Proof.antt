@@ -24,7 +24,7 @@ loop-holds : tie.Need-loop-holds Inv-loop μ-loop
 loop-holds c = (omega arith, λ x l. absurd (omega arith))
 
 row-overlaps-requires : tie.Need-row-overlaps-requires Inv-loop μ-loop
-row-overlaps-requires c κs = (c .before .before .before .before .pre, omega arith)
+row-overlaps-requires c κs = (c .before .before .before .before .pre .0, omega arith)
 
 returns : tie.Need-returns Inv-loop μ-loop
 returns c =
