@@ -1,6 +1,6 @@
 -- What one pass over the list leaves: the first bad entry, and the weights of the columns.
 --   listAt H p      == entry p of the list
---   Walked H v p    == p is the first bad entry, or the list's length; v then has the weights
+--   Walked H v p    == p is the first bad entry, or the list's length; v counts the columns of the entries before p, in each of its cells
 --   offWeight g v j == what v has for column j is not g
 -- Assumes nothing.
 use mathlib.Core.Path.{_≡_}
@@ -18,9 +18,11 @@ use Rattle.matrix.specs.Tallies.{Tally}
 abbrev pub listAt : Matrix → ℕ → ℕ
 listAt H p = getD (H .list) p 0
 
+-- p is the first bad entry, or the list's length, and v counts the columns of the entries before p
 pub record Walked (H : Matrix) (v : List ℕ) (p : ℕ) : Type 0 where
   pub place : p ≡ first (badEntry H) (length (H .list))
-  pub tallied : p ≡ length (H .list) → Tally (listAt H) (length (H .list)) v
+  pub tallied : Tally (listAt H) p v
 
+-- what v has for column j is not gamma
 unfoldable pub offWeight : ℕ → List ℕ → ℕ → Bool
 offWeight gamma v j = not (eqb (getD v j 0) gamma)

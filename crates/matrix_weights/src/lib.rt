@@ -43,7 +43,7 @@ fn count(tally: &mut [u16; 1023], c: usize)
     tally[c] += 1;
 }
 
-// The first bad entry, else the list's length. The same pass counts the columns' weights.
+// The first bad entry, else the list's length. The same pass counts the columns of the entries before it: the weights, where none is bad.
 // Only this repository's crates call it, after asking refusals 1 and 2.
 pub fn walk(shape: Shape, list: &[u16], weights: &mut [u16; 1023]) -> usize
     requires { ⌜ Sized (matrixOf shape (now list)) × Tally (listAt (matrixOf shape (now list))) 0 (now weights) ⌝ }

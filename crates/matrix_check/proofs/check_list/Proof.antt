@@ -33,7 +33,7 @@ counted c =
     let w = c .before .before .before .walk in
     let e : w .result ≡ length (lent b .list) =
     omega (arith, w .ensures .place, first-le (badEntry (lent b)) (length (lent b .list)), c .before .before .if1 .left) in
-    c .first-off-weight .ensures ∙ tally-off (lent b) (w .last .1 .1 .0) (b .pre .sizes .n-most) (b .pre .whole) (w .ensures .tallied e)
+    c .first-off-weight .ensures ∙ tally-off (lent b) (w .last .1 .1 .0) (b .pre .sizes .n-most) (b .pre .whole) (rw e at (w .ensures .tallied))
 
 -- and no weight is wrong after the second test
 even : (c : tie.Else2) → let H = lent (c .before .before .before .before .before .before .before .before .before) in Never (BadWeight H) (H .n)

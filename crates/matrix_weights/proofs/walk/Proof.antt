@@ -1,5 +1,5 @@
 -- `matrix_check::walk` meets its contract. The loop's invariant: no entry passed is bad, and the weights count those passed. Assumes nothing.
-use mathlib.Core.Path.{_≡_, refl, sym, ap, subst, _∙_}
+use mathlib.Core.Path.{_≡_, sym, ap, _∙_}
 use mathlib.Core.Bool.{false}
 use Prim.Native.Nat.{ℕ, _+_, _-_, _%_, _≤_, _<_}
 use native.Mathlib.Nat.{zero-mod, mod-lt, mod-add-mod}
@@ -11,9 +11,8 @@ use Rattle.matrix.specs.Paper.Check.{badEntry}
 use Rattle.matrix.specs.Paper.Shapes.{matrixOf}
 use Rattle.matrix.specs.Tallies.{Tally}
 use Rattle.matrix.proofs.Ordered.{few}
-use Rattle.matrix.proofs.Tallies.{tally-more, tally-le}
 use Rattle.matrix_weights.specs.Weights.{listAt}
-use Rattle.matrix_weights.proofs.Weights.{good-below}
+use Rattle.matrix_weights.proofs.Weights.{good-below, tally-next, tally-room}
 use Rattle.matrix_weights.proofs.walk.Statement.{statement}
 use Rattle.matrix_weights.proofs.walk.Tie as tie
 
@@ -41,7 +40,7 @@ returns c =
     let l = c .before .before .before .loop in
     record {
       place = sym (first-at (badEntry H) (length (a .list .now)) (l .p) (omega arith) (l .inv .3) (sym (c .before .bad-entry .ensures) ∙ c .if1 .taken));
-      tallied = λ e. absurd (omega (arith, e, c .before .before .loop-test .taken));
+      tallied = l .inv .2;
     }
 
 mul-count : tie.Need-mul-count Inv-loop μ-loop
@@ -60,7 +59,7 @@ count-requires c κs =
     let l = c .before .before .before .before .before .loop in
     let h : listAt H (l .p) < b .args .shape .n = good-below H (l .p) (sym (c .before .before .before .bad-entry .ensures) ∙ c .before .before .if1 .left) in
     let low : listAt H (l .p) < 1023 = omega (arith, h, b .pre .0 .sizes .n-most) in
-    (low, omega (arith, tally-le (listAt H) (l .p) (l .weights) (l .inv .2) (listAt H (l .p)) low, few (b .pre .0), l .inv .0))
+    (omega arith, tally-room H (l .inv .2) (omega (arith, few (b .pre .0), l .inv .0)) _ (omega arith))
 
 next-place-requires : tie.Need-next-place-requires Inv-loop μ-loop
 next-place-requires c κs =
@@ -83,8 +82,7 @@ loop-again c =
     sym (c .before .before .before .before .before .bad-entry .ensures) ∙ c .before .before .before .before .if1 .left in (
       omega arith,
       c .next-place .ensures ∙ ap (λ (x : ℕ). (x + 1) % b .args .shape .rho) (l .inv .1) ∙ mod-add-mod (l .p) (b .args .shape .rho) 1,
-      tally-more (listAt H) (l .p) (listAt H (l .p)) (l .weights) (c .before .count .last .0) (l .inv .2) refl
-          (omega (arith, good-below H (l .p) good, b .pre .0 .sizes .n-most)) (c .before .count .ensures),
+      tally-next H (l .inv .2) (c .before .count .ensures) (omega arith) (omega (arith, good-below H (l .p) good, b .pre .0 .sizes .n-most)),
       below-more (λ (x : ℕ). badEntry H x ≡ false) (l .p) (l .inv .3) good,
     )
 
@@ -96,7 +94,7 @@ returns-2 c =
     let z : l .p ≡ length (a .list .now) = omega arith in
     record {
       place = z ∙ sym (first-none (badEntry H) (length (a .list .now)) (λ x h. l .inv .3 x (omega arith)));
-      tallied = λ e. subst (λ (k : ℕ). Tally (listAt H) k (l .weights)) z (l .inv .2);
+      tallied = l .inv .2;
     }
 
 pub walk-spec : {M : Type 1} → statement M
