@@ -1,6 +1,9 @@
 -- `matrix_check::first_overlap` meets its contract. Assumes nothing.
-use mathlib.Core.Path.{sym, _∙_}
+use mathlib.Core.Path.{_≡_, sym, _∙_}
+use mathlib.Core.Bool.{true}
+use Rattle.counting.proofs.Searches.{never, cases}
 use Rattle.matrix.specs.Paper.Shapes.{matrixOf}
+use Rattle.matrix_meeting.specs.Overlaps.{hasOverlap}
 use Rattle.matrix_meeting.proofs.Overlaps.{overlap-some, overlap-none}
 use borrow.Author.Needs.{needs}
 use Rattle.matrix_check.proofs.first_overlap.Statement.{statement}
@@ -13,7 +16,9 @@ exact-overlap-requires : tie.Need-exact-overlap-requires
 exact-overlap-requires c κs =
     let b = c .before .before .before in
     let H = matrixOf (b .args .shape) (b .args .list .now) in
-    (b .pre, overlap-some H (sym (c .before .pair-twice .ensures) ∙ c .if1 .taken))
+    let some : hasOverlap H ≡ true =
+    cases (hasOverlap H) (λ y. y) (λ n. absurd (never (sym (rw (c .before .pair-twice .ensures, n) at (c .if1 .taken))))) in
+    (b .pre, overlap-some H some)
 
 returns : tie.Need-returns
 returns c = search needs
