@@ -4,34 +4,32 @@
 --   stepRounds-cong   == there are as many rounds
 --   stepWord-cong     == the words after the vote agree below n
 -- Assumes nothing.
-use mathlib.Core.Path.{_≡_, ap, ap₂}
-use mathlib.Core.Bool.{cond}
-use Prim.Native.Nat.{ℕ, _*_, _<_}
-use lib.Dec.{ltb, eqb}
+use mathlib.Core.Path.{_≡_}
+use Prim.Native.Nat.{ℕ, _<_}
 use Rattle.counting.proofs.Sums.{sum-cong}
-use Rattle.matrix.specs.Paper.Code.{Matrix, has, weight}
+use Rattle.matrix.specs.Paper.Code.{Matrix}
 use Rattle.matrix.specs.Paper.PlainCheck.{Rows}
 use Rattle.matrix.proofs.Rows.{fails-cong, failing-cong}
-use Rattle.majority_logic.specs.Paper.Votes.{votes, flipWhen, flipped}
+use Rattle.majority_logic.specs.Paper.Votes.{votes, flipped}
 use Rattle.majority_logic.specs.Paper.OneStep.{stepWord, stepRounds}
 
 module _ (H : Matrix) (r : Rows H) (z c : ℕ → ℕ) (agree : (j : ℕ) → j < H .n → z j ≡ c j) where
   -- each column has the same votes
   pub votes-cong : (j : ℕ) → votes H z j ≡ votes H c j
   unfolding votes
-  votes-cong j = sum-cong (H .m) (λ i h. ap (λ (x : ℕ). has H i j * x) (fails-cong H r z c agree i h))
+  votes-cong j = sum-cong (H .m) (λ i h. cc (fails-cong H r z c agree i h))
 
   -- each bit is flipped alike
   pub flipped-cong : (j : ℕ) → j < H .n → flipped H z j ≡ flipped H c j
   unfolding flipped
-  flipped-cong j h = ap₂ (λ (v b : ℕ). flipWhen (ltb (weight H j) (2 * v)) b) (votes-cong j) (agree j h)
+  flipped-cong j h = cc (votes-cong j, agree j h)
 
   -- there are as many rounds
   pub stepRounds-cong : stepRounds H z ≡ stepRounds H c
   unfolding stepRounds
-  stepRounds-cong = ap (λ (f : ℕ). cond (eqb f 0) 0 1) (failing-cong H r z c agree)
+  stepRounds-cong = cc (failing-cong H r z c agree)
 
   -- the words after the vote agree below n
   pub stepWord-cong : (j : ℕ) → j < H .n → stepWord H z j ≡ stepWord H c j
   unfolding stepWord
-  stepWord-cong j h = rw (failing-cong H r z c agree, agree j h, flipped-cong j h)
+  stepWord-cong j h = cc (failing-cong H r z c agree, agree j h, flipped-cong j h)
