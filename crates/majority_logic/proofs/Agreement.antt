@@ -12,6 +12,7 @@ use Rattle.matrix.specs.Paper.PlainCheck.{Rows}
 use Rattle.matrix.proofs.Rows.{fails-cong, failing-cong}
 use Rattle.majority_logic.specs.Paper.Votes.{votes, flipped}
 use Rattle.majority_logic.specs.Paper.OneStep.{stepWord, stepRounds}
+use Rattle.majority_logic.proofs.Correction.{stepWord-flipped}
 
 module _ (H : Matrix) (r : Rows H) (z c : ℕ → ℕ) (agree : (j : ℕ) → j < H .n → z j ≡ c j) where
   -- each column has the same votes
@@ -31,5 +32,4 @@ module _ (H : Matrix) (r : Rows H) (z c : ℕ → ℕ) (agree : (j : ℕ) → j 
 
   -- the words after the vote agree below n
   pub stepWord-cong : (j : ℕ) → j < H .n → stepWord H z j ≡ stepWord H c j
-  unfolding stepWord
-  stepWord-cong j h = cc (failing-cong H r z c agree, agree j h, flipped-cong j h)
+  stepWord-cong j h = rw (stepWord-flipped H z, stepWord-flipped H c) (flipped-cong j h)
