@@ -38,7 +38,7 @@ use Rattle.session_record.specs.Paper.Record.{Course, courseIn, recordFor, stat
 use Rattle.session_record.specs.Paper.Sessions.{recordOf}
 use Rattle.session_asking.specs.Paper.Asked.{Held, openVerdict, stepVerdict}
 use Rattle.session_asking.specs.Paper.PlainCalls.{Openable, Steppable}
-use Rattle.session.specs.Paper.Steps.{courseFor, openedFrom, openedLeft, openOf, stateIn, steppedState, steppedLeft, stepOf}
+use Rattle.session.specs.Paper.Steps.{courseFor, openedFrom, openedLeft, openOf, steppedState, steppedLeft, stepOf}
 use Rattle.session.specs.RoundParts.{RoundLent, RoundLeft}
 use Rattle.session.specs.Paper.Call.{Leaves}
 use Rattle.session_record.specs.declared.Session.{Session}
@@ -63,7 +63,7 @@ module _ (H : Matrix) (w : List ℕ) (h : Held) (s : Steppable H w h) where
   changed-is : distance (8 * bytesFor (H .n)) (bitAt (pack (H .n) (steppedState H h .z))) (bitAt w) ≡ changedBits H (steppedState H h .z) (bitAt w)
   changed-is =
       let z : ℕ → ℕ = steppedState H h .z in
-      let b : (j : ℕ) → j < H .n → z j < 2 = λ j l. round-bits H (largest (h .rec .bits)) (stateIn (h .word) (h .levels)) j in
+      let b : (j : ℕ) → j < H .n → z j < 2 = λ j l. round-bits H _ _ j in
       let e : 8 * bytesFor (H .n) ≡ H .n + (8 * bytesFor (H .n) - H .n) = omega arith in
       ap (λ (k : ℕ). distance k (bitAt (pack (H .n) z)) (bitAt w)) e
       ∙ distance-spare (H .n) (8 * bytesFor (H .n) - H .n) (bitAt (pack (H .n) z)) (bitAt w)

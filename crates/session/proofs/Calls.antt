@@ -16,13 +16,13 @@ use Rattle.packed_word.specs.Paper.Packed.{bitAt}
 use Rattle.matrix.specs.Paper.Code.{Matrix, failing}
 use Rattle.matrix.specs.Paper.PlainCheck.{Rows}
 use Rattle.matrix.proofs.Rows.{failing-cong}
-use Rattle.quantiser_levels.specs.Paper.Samples.{Setting, largest}
+use Rattle.quantiser_levels.specs.Paper.Samples.{Setting}
 use Rattle.iterative_rounds.specs.Paper.Rounds.{State}
 use Rattle.iterative_core.specs.Paper.Iterative.{startOf}
 use Rattle.session_record.specs.Paper.Record.{Course, Record, working, decoded, failed, courseIn, stateAfter}
 use Rattle.session_asking.specs.Paper.Asked.{Held, lent, openVerdict, stepVerdict}
 use Rattle.session_asking.specs.Paper.PlainCalls.{Steppable}
-use Rattle.session.specs.Paper.Steps.{courseFor, heldAt, openedLeft, openOf, stateIn, steppedState, steppedLeft, stepOf}
+use Rattle.session.specs.Paper.Steps.{courseFor, heldAt, openedLeft, openOf, steppedState, steppedLeft, stepOf}
 use Rattle.session.specs.Paper.Stepping.{Means, Ran, opened, stepped, step-refused, open-refused, Within}
 use Rattle.session_asking.proofs.Questions.{accepted-open, accepted-step}
 use Rattle.session.proofs.Kept.{refused-open-keeps, refused-step-keeps, accepted-opens, accepted-steps, start-bits, round-bits}
@@ -74,7 +74,7 @@ step-means H w h e =
     let s : Steppable H w h = accepted-step H w h e in
     rw (accepted-steps H w h e)
     (held-means H (s .matrix .rows) (courseIn (h .rec)) (suc (h .rec .k)) (steppedState H h) h
-    (round-bits H (largest (h .rec .bits)) (stateIn (h .word) (h .levels))) (omega (arith, s .usable .left)))
+    (round-bits H _ _) (omega (arith, s .usable .left)))
 
 -- ---- a session ends
 
