@@ -45,10 +45,10 @@ mul-if2 c =
 returns-2 : tie.Need-returns-2
 returns-2 c =
     let b = c .before .before .before .before .before .before in
-    reads-only (lent b) _ (length-wrong (fits (c .before .before .before)) (c .if2 .taken))
+    reads-only (lent b) _ (length-wrong (fits (c .before .before .before)) (λ e. omega (arith, e, c .if2 .taken)))
 
 check-list-requires : tie.Need-check-list-requires
-check-list-requires c κs = record { sizes = fits (c .before .before .before); whole = c .if2 .left }
+check-list-requires c κs = record { sizes = fits (c .before .before .before); whole = omega (arith, c .if2 .left) }
 
 returns-3 : tie.Need-returns-3
 returns-3 c = search needs
