@@ -1,6 +1,7 @@
 //! What the proved library says, in words: the matrix check, the check of a setting, one-step
 //! voting. No verdict is formed here; a refusal is only looked up in the file.
 
+use crate::amount::counted;
 use crate::fault::Fault;
 use crate::matrix_file::{At, Form, Matrix, MatrixFile, COUNTED_FROM_1};
 use crate::setting::Setting;
@@ -101,9 +102,9 @@ fn weight(file: &MatrixFile, column: usize) -> Fault {
     let stands = |&index: &usize| usize::from(h.list[index]) == column;
     let found: Vec<usize> = (0..h.list.len()).filter(stands).collect();
     let what = format!(
-        "column {} stands in {} rows, and gamma is {}",
+        "column {} stands in {}, and gamma is {}",
         column + file.first,
-        found.len(),
+        counted(found.len(), "row"),
         h.gamma
     );
     let remedy = match (found.len(), file.first) {

@@ -3,6 +3,7 @@
 //! What decodes is the proved program, run as a child process, or the proved library; this tool
 //! reads, splits, tells and writes. Whatever is wrong is said as `file:line:field: what, remedy`.
 
+mod amount;
 pub mod arguments;
 pub mod checked;
 pub mod decode;

@@ -3,12 +3,13 @@
 mod blocks;
 mod colours;
 
+use crate::amount::{counted, thousands};
 use crate::arguments::{asks_help, Arguments, Known};
 use crate::fault::Fault;
 use crate::lines::shown;
 use crate::output::{print, refuse_same, whole};
 use crate::status::Status;
-use crate::svg::{thousands, Picture};
+use crate::svg::Picture;
 use blocks::{Block, Blocks, End};
 use colours::{bits_changed, Kinds};
 use std::fmt::Write;
@@ -133,10 +134,7 @@ fn draw(name: &str, blocks: &Blocks, columns: Option<usize>) -> String {
     let width = (legend_x + LEGEND_WIDTH).max(720.0);
     let height = TOP + layout.height().max(legend_height) + 20.0;
     let mut picture = Picture::new(width, height);
-    let title = match blocks.all.len() {
-        1 => format!("{name}: 1 block"),
-        count => format!("{name}: {} blocks", thousands(count as u64)),
-    };
+    let title = format!("{name}: {}", counted(blocks.all.len(), "block"));
     picture.text("h", (20.0, 28.0), &title);
     picture.text("", (20.0, 49.0), &totals(&counts));
     draw_cells(&mut picture, blocks, &kinds, &layout);
@@ -231,7 +229,7 @@ fn tooltip(block: &Block, reason: &str) -> String {
         End::Within(count) => format!("decoded, {}", bits_changed(count)),
         End::Open(count) => format!("decoded, {}, open", bits_changed(count)),
         End::Failed(1) => "failed, 1 check fails".into(),
-        End::Failed(failing) => format!("failed, {failing} checks fail"),
+        End::Failed(failing) => format!("failed, {} fail", counted(failing as usize, "check")),
         End::Refused if reason.is_empty() => "refused".into(),
         End::Refused => format!("refused, {reason}"),
     };

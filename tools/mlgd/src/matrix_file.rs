@@ -7,6 +7,7 @@ mod list;
 mod rows;
 mod write;
 
+use crate::amount::counted;
 use crate::fault::Fault;
 use crate::text::{Line, Text};
 
@@ -160,8 +161,9 @@ fn form_of(text: &Text) -> Result<Form, Fault> {
     }
 }
 
-/// The gamma that the ones of all rows make, if the columns can have one weight.
-fn weight_of_columns(text: &Text, n: usize, rows: &[u16], counted: usize) -> Result<u16, Fault> {
+/// The gamma that the ones of all rows make, if the columns can have one weight. `first` is what
+/// the file calls the first column.
+fn weight_of_columns(text: &Text, n: usize, rows: &[u16], first: usize) -> Result<u16, Fault> {
     let gamma = rows.len() / n.max(1);
     if rows.len() == gamma * n {
         let too_many = || text.at_end("there are too many rows".into(), "is this the right file?");
@@ -176,10 +178,10 @@ fn weight_of_columns(text: &Text, n: usize, rows: &[u16], counted: usize) -> Res
         .position(|&weight| weight != weights[0])
         .unwrap_or(0);
     let what = format!(
-        "column {counted} stands in {} rows and column {} in {}: \
+        "column {first} stands in {} and column {} in {}: \
          the decoder takes columns of one weight",
-        weights[0],
-        other + counted,
+        counted(weights[0], "row"),
+        other + first,
         weights[other]
     );
     let remedy = match weights[0] {

@@ -122,12 +122,13 @@ fn voted(matrix: &Matrix, promise: &Promise, line: usize, block: usize, received
             promise.row(line, block, answer, ended)
         }
         Err(9) => {
-            let spare = 8 * matrix.word_bytes() - usize::from(matrix.n);
-            refused(
-                line,
-                block,
-                format!("one of the last {spare} places of the last byte is not 0"),
-            )
+            let places = match 8 * matrix.word_bytes() - usize::from(matrix.n) {
+                1 => "the last place".into(),
+                spare => format!("one of the last {spare} places"),
+            };
+            let reason =
+                format!("{places} of the last byte is not 0: write the word's spare bits as 0");
+            refused(line, block, reason)
         }
         Err(number) => refused(line, block, format!("refusal {number}")),
     }

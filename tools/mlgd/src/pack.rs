@@ -1,5 +1,6 @@
 //! `mlgd pack`: the program's input from files.
 
+use crate::amount::counted;
 use crate::arguments::{asks_help, Arguments, Known};
 use crate::decode::{accepted, form, once_standard_input, INPUTS};
 use crate::fault::Fault;
@@ -86,10 +87,8 @@ impl Packing {
         let mut block = Vec::new();
         while self.next_block(&mut block)? {
             if self.blocks > stream::MOST_BLOCKS {
-                let what = format!(
-                    "the program reads {} blocks of a run at most",
-                    stream::MOST_BLOCKS
-                );
+                let most = counted(stream::MOST_BLOCKS, "block");
+                let what = format!("the program reads {most} of a run at most");
                 return Err(Fault::new(name, what).remedy("give --split, or use mlgd decode"));
             }
             output.write(&block)?;

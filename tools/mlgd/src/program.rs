@@ -1,5 +1,6 @@
 //! The proved program `decode`, run as a child process: what decodes is what was proved.
 
+use crate::amount::counted;
 use crate::checked::Answer;
 use crate::fault::{short, Fault};
 use crate::matrix_file::Matrix;
@@ -120,8 +121,9 @@ pub(crate) fn block_lines(printed: &str, blocks: usize) -> Result<Vec<BlockLine>
     }
     if read.len() != blocks || !printed.ends_with('\n') {
         return Err(format!(
-            "it printed {} lines for {blocks} blocks: a write was lost",
-            read.len()
+            "it printed {} for {}: a write was lost",
+            counted(read.len(), "line"),
+            counted(blocks, "block")
         ));
     }
     Ok(read)

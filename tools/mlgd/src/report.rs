@@ -1,5 +1,6 @@
 //! What is proved of a block's outcome, in words, and the totals of a run.
 
+use crate::amount::counted;
 use crate::checked::Answer;
 use crate::matrix_file::Matrix;
 use crate::results::{Counts, Outcome, Row};
@@ -51,16 +52,13 @@ impl Promise {
         match self.t.saturating_sub(lost) {
             0 => "a bit was wrong".into(),
             1 => "more than 1 bit was wrong".into(),
-            t => format!("more than {t} bits were wrong"),
+            t => format!("more than {} were wrong", counted(t, "bit")),
         }
     }
 
     /// What is to be said of a codeword that lies beyond the half, whatever the limit.
     fn beyond(&self, wrong_bits: usize) -> String {
-        let bits = match wrong_bits {
-            1 => "1 bit".into(),
-            _ => format!("{wrong_bits} bits"),
-        };
+        let bits = counted(wrong_bits, "bit");
         let are = if self.t == 1 { "is" } else { "are" };
         format!(
             "changed {bits}, more than the {} that {are} proved to be undone: \
@@ -71,18 +69,20 @@ impl Promise {
 
     /// Why a block is open to doubt, in words; nothing where it is decoded within the half.
     fn reason(&self, answer: &Answer, ended: &Ended) -> String {
-        let checks = checks(answer.failing);
+        let still = match answer.failing {
+            1 => "1 check still fails".into(),
+            failing => format!("{} still fail", counted(failing, "check")),
+        };
         match (answer.decoded, self.missing_limit()) {
             (true, _) if ended.wrong_bits <= self.t => String::new(),
             (true, _) => self.beyond(ended.wrong_bits),
             (false, None) => {
                 let wrong = self.more_than(ended.weak);
-                format!("{wrong}: {checks} still fail: send the block again")
+                format!("{wrong}: {still}: send the block again")
             }
             (false, Some(ample)) => format!(
-                "{checks} still fail after {} rounds: \
-                 try a limit of {ample} before you send it again",
-                answer.rounds
+                "{still} after {}: try a limit of {ample} before you send it again",
+                counted(answer.rounds, "round")
             ),
         }
     }
@@ -109,13 +109,6 @@ impl Promise {
             within_half,
             reason,
         }
-    }
-}
-
-fn checks(count: usize) -> String {
-    match count {
-        1 => "1 check".into(),
-        _ => format!("{count} checks"),
     }
 }
 
@@ -183,8 +176,8 @@ impl Totals {
     /// The outcomes, in one line.
     pub fn outcomes(&self) -> String {
         format!(
-            "{} blocks: {} decoded ({} within the half, {} beyond it), {} failed, {} refused",
-            self.blocks,
+            "{}: {} decoded ({} within the half, {} beyond it), {} failed, {} refused",
+            counted(self.blocks, "block"),
             self.decoded,
             self.within_half,
             self.decoded - self.within_half,

@@ -1,5 +1,6 @@
 //! The results table: one line a block, to be opened in a spreadsheet and read again by `map`.
 
+use crate::amount::counted;
 use crate::fault::{short, Fault};
 use crate::fields::{Fields, Separator};
 use crate::lines::Lines;
@@ -137,7 +138,9 @@ impl Table {
             }
             let found = split(&self.lines, &mut self.fields)?;
             if found.len() != self.names.len() {
-                let what = format!("{} fields below {} names", found.len(), self.names.len());
+                let (fields, names) = (found.len(), self.names.len());
+                let (fields, names) = (counted(fields, "field"), counted(names, "name"));
+                let what = format!("{fields} below {names}");
                 let remedy = "is the table whole?";
                 return Err(self.lines.place().fault(what, remedy));
             }

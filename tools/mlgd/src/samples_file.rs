@@ -3,6 +3,7 @@
 //! A block is one line, or the same number of lines with the same numbers of fields each time. A
 //! file that could be read in two ways is refused, with a hint.
 
+use crate::amount::counted;
 use crate::fault::{short, Fault};
 use crate::fields::{column_letters, refuse_blank, Fields, Separator};
 use crate::lines::{refuse_percent, without_comment, Lines};
@@ -317,12 +318,6 @@ impl SamplesFile {
         let remedy = "is a value missing, or is this another code's matrix?";
         Err(self.lines.place().fault(what, remedy))
     }
-}
-
-/// A number with the word for what it counts.
-fn counted(count: usize, what: &str) -> String {
-    let s = if count == 1 { "" } else { "s" };
-    format!("{count} {what}{s}")
 }
 
 /// A block as a line that is read again without loss. `1,1` could be a decimal comma: two samples

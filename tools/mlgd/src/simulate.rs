@@ -12,6 +12,7 @@ mod points;
 mod random;
 mod tally;
 
+use crate::amount::counted;
 use crate::arguments::{asks_help, Arguments, Known};
 use crate::decode::{accepted, once_standard_input};
 use crate::fault::Fault;
@@ -21,7 +22,6 @@ use crate::program::{refuse_odd_word, BlockLine, Program};
 use crate::samples_file::csv_line;
 use crate::setting::Setting;
 use crate::status::Status;
-use crate::svg::thousands;
 use crate::word::{bit, differing, distance};
 use crate::{checked, stream};
 use code::Code;
@@ -166,8 +166,8 @@ fn title(file: &str, channel: &Channel) -> String {
 
 fn subtitle(setting: &Setting, blocks: usize, seed: usize) -> String {
     format!(
-        "{setting}; {} blocks a point, or until {} were wrong; seed {seed}",
-        thousands(blocks as u64),
+        "{setting}; {} a point, or until {} were wrong; seed {seed}",
+        counted(blocks, "block"),
         tally::ENOUGH
     )
 }
@@ -256,10 +256,9 @@ fn rates(channel: &Channel, decoder: &Decoder, wanted: &Wanted) -> Result<Vec<Po
 /// `4 dB: 200 of 49,012 blocks wrong, 4.08e-3`.
 fn progress(point: &Point) -> String {
     format!(
-        "{} dB: {} of {} blocks wrong, {:.2e}",
+        "{} dB: {}, {:.2e}",
         point.db.value(),
-        thousands(point.tally.frame_errors),
-        thousands(point.tally.blocks),
+        point.tally.wrong(),
         point.frames.rate
     )
 }

@@ -3,8 +3,6 @@
 //! Colours and fonts stand in the style that a picture is finished with. A `<title>` inside a
 //! shape is what a browser shows when the mouse rests on it.
 
-use std::fmt::Write;
-
 /// A place: to the right, and down.
 pub type At = (f64, f64);
 
@@ -143,19 +141,6 @@ pub fn short(number: f64) -> String {
     }
 }
 
-/// A whole number with commas between its thousands.
-pub fn thousands(number: u64) -> String {
-    let digits = number.to_string();
-    let mut out = String::new();
-    for (at, digit) in digits.chars().enumerate() {
-        if at > 0 && (digits.len() - at).is_multiple_of(3) {
-            out.push(',');
-        }
-        write!(out, "{digit}").expect("writing to a string");
-    }
-    out
-}
-
 /// Says what is wrong with a picture's tags: every one that opens closes in its turn.
 #[cfg(test)]
 pub(crate) fn tags_balance(svg: &str) -> Result<usize, String> {
@@ -183,7 +168,7 @@ pub(crate) fn tags_balance(svg: &str) -> Result<usize, String> {
 
 #[cfg(test)]
 mod tests {
-    use super::{escaped, short, tags_balance, thousands, Picture};
+    use super::{escaped, short, tags_balance, Picture};
 
     #[test]
     fn numbers_and_texts() {
@@ -196,14 +181,6 @@ mod tests {
             (100.0, "100"),
         ] {
             assert_eq!(short(number), text);
-        }
-        for (number, text) in [
-            (0, "0"),
-            (999, "999"),
-            (1000, "1,000"),
-            (1_234_567, "1,234,567"),
-        ] {
-            assert_eq!(thousands(number), text);
         }
         assert_eq!(
             escaped("a<b & \"c\">\u{1b}"),

@@ -1,6 +1,7 @@
 //! A file of received words, one a line, for one-step voting: hexadecimal digits, with or without
 //! `x` or `0x` before them, or zeros and ones.
 
+use crate::amount::counted;
 use crate::fault::Fault;
 use crate::lines::{refuse_percent, without_comment, Lines};
 use crate::program::bytes;
@@ -68,8 +69,8 @@ fn word(n: usize, line: &str) -> Result<Vec<u8>, (String, String)> {
     let found = bytes(digits).filter(|_| is_digits);
     found.ok_or_else(|| {
         let what = format!(
-            "this is no word of {n} bits: it has {} characters",
-            digits.len()
+            "this is no word of {n} bits: it has {}",
+            counted(digits.len(), "character")
         );
         (what, remedy)
     })

@@ -3,6 +3,7 @@
 //! The colours get darker from kind to kind, so that they can be told apart without hue.
 
 use super::blocks::{Block, End};
+use crate::amount::counted;
 
 /// Blocks decoded within the half, from few wrong bits to many.
 pub const WITHIN: [&str; 6] = [
@@ -99,8 +100,7 @@ impl Kinds {
 pub fn bits_changed(count: u32) -> String {
     match count {
         0 => "no bit changed".into(),
-        1 => "1 bit changed".into(),
-        _ => format!("{count} bits changed"),
+        _ => format!("{} changed", counted(count as usize, "bit")),
     }
 }
 

@@ -3,6 +3,7 @@
 //! counted from 1, with or without zeros at the end of a line.
 
 use super::{At, Form, Matrix, MatrixFile};
+use crate::amount::counted;
 use crate::fault::Fault;
 use crate::text::{Line, Text};
 
@@ -31,7 +32,7 @@ pub(super) fn read(text: &Text) -> Result<MatrixFile, Fault> {
     let columns = alist.columns(n, m, gamma)?;
     let (list, entries) = alist.rows(n, m, rho, &columns)?;
     if let Some(line) = alist.lines.next() {
-        let what = format!("a line after the {m} rows");
+        let what = format!("a line after {}", counted(m.into(), "row"));
         return Err(text.of_line(line, what, "correct m, or take the line away"));
     }
     Ok(MatrixFile {
@@ -69,7 +70,8 @@ impl<'a> Alist<'a> {
     fn numbers(&mut self, count: usize, what: &str) -> Result<Vec<Number>, Fault> {
         let line = self.line(what, "is the file whole?")?;
         if line.len() != count {
-            let what = format!("{what}: {} numbers where {count} are due", line.len());
+            let has = counted(line.len(), "number");
+            let what = format!("{what}: {has} where {count} are due");
             let remedy = match line.len() < count && count > 2 {
                 true => "is the line wrapped? Write all weights on one line",
                 false => "an alist has n m, two weights, n column weights, m row weights",
@@ -124,8 +126,10 @@ impl<'a> Alist<'a> {
             return Ok(());
         }
         let what = format!(
-            "{n} columns of weight {gamma} have {by_columns} ones, \
-             {m} rows of weight {rho} have {by_rows}"
+            "{} of weight {gamma} and {} of weight {rho}: {by_columns} ones by columns, \
+             {by_rows} by rows",
+            counted(n.into(), "column"),
+            counted(m.into(), "row")
         );
         let place = self.text.place(at.0);
         Err(place.at(at.1, what, "correct the sizes or the weights"))
@@ -192,8 +196,8 @@ impl<'a> Alist<'a> {
             }
         }
         if places.len() != usize::from(weight) {
-            let has = places.len();
-            let said = format!("{what} {number} has {has} {others}s, and its weight is {weight}");
+            let has = counted(places.len(), others);
+            let said = format!("{what} {number} has {has}, and its weight is {weight}");
             return Err(self
                 .text
                 .of_line(line, said, "correct the line or the weight"));
@@ -230,11 +234,7 @@ mod tests {
             "4 3",
             "h:3: the weights of the columns: 3 numbers where 4 are due, is the line wrapped?",
         ),
-        (
-            1,
-            "2",
-            "h:2: the largest weights: 1 numbers where 2 are due",
-        ),
+        (1, "2", "h:2: the largest weights: 1 number where 2 are due"),
         (
             1,
             "3 2",
@@ -251,7 +251,7 @@ mod tests {
             "h:4:3: row 3 has weight 1 and row 1 has 2: the decoder takes rows of one",
         ),
         (4, "1 4", "h:5:2: row: 4 is above 3"),
-        (4, "1 0", "h:5: column 1 has 1 rows, and its weight is 2"),
+        (4, "1 0", "h:5: column 1 has 1 row, and its weight is 2"),
         (4, "1 2 3", "h:5: column 1 has 3 rows, and its weight is 2"),
         (4, "0 1 3", "h:5:2: column 1 has a row after a 0"),
         (4, "1 1", "h:5:2: row 1 stands twice in column 1"),
@@ -275,9 +275,10 @@ mod tests {
         }
         let fault = |contents: &str| MatrixFile::of("h", contents).unwrap_err().to_string();
         let longer = format!("{ALIST}1 2\n");
-        assert!(fault(&longer).starts_with("h:11: a line after the 3 rows"));
+        assert!(fault(&longer).starts_with("h:11: a line after 3 rows"));
         let unlike = "3 2\n2 2\n2 2 2\n2 2\n";
-        let expected = "h:1:1: 3 columns of weight 2 have 6 ones, 2 rows of weight 2 have 4";
+        let expected =
+            "h:1:1: 3 columns of weight 2 and 2 rows of weight 2: 6 ones by columns, 4 by rows";
         assert!(fault(unlike).starts_with(expected));
     }
 }

@@ -1,6 +1,7 @@
 //! A matrix of zeros and ones, with or without blanks between them.
 
 use super::{weight_of_columns, Form, Matrix, MatrixFile};
+use crate::amount::counted;
 use crate::fault::Fault;
 use crate::text::{Line, Text};
 
@@ -8,16 +9,18 @@ pub(super) fn read(text: &Text) -> Result<MatrixFile, Fault> {
     let first = ones(&text.lines[0]);
     let n = width(&text.lines[0]);
     if u16::try_from(n.max(text.lines.len())).is_err() {
-        let what = format!("{n} columns and {} rows are too many", text.lines.len());
+        let (columns, rows) = (counted(n, "column"), counted(text.lines.len(), "row"));
+        let what = format!("{columns} and {rows} are too many");
         return Err(text.at_end(what, "the decoder takes up to 1023 of each"));
     }
     let (mut list, mut entries) = (Vec::new(), Vec::new());
     for (i, line) in text.lines.iter().enumerate() {
         let ones = ones(line);
         if width(line) != n || ones.len() != first.len() {
-            let (row, width, ones, rho) = (i + 1, width(line), ones.len(), first.len());
+            let (row, rho) = (i + 1, first.len());
+            let (places, ones) = (counted(width(line), "place"), counted(ones.len(), "one"));
             let what = format!(
-                "row {row} has {width} places and {ones} ones, row 1 has {n} and {rho}: \
+                "row {row} has {places} and {ones}, row 1 has {n} and {rho}: \
                  the decoder takes rows of one weight"
             );
             return Err(text.of_line(line, what, "is a number missing, or one too many?"));

@@ -2,6 +2,7 @@
 
 use super::rows::Entries;
 use super::{Form, Matrix, MatrixFile};
+use crate::amount::counted;
 use crate::fault::Fault;
 use crate::text::{Line, Text};
 
@@ -42,18 +43,21 @@ fn entries(
     let count = if rho == 0 { 0 } else { usize::from(m) };
     for (i, row) in rows.iter().enumerate() {
         if i == count {
-            let what = format!("a line after the {count} rows that m says");
+            let what = format!("a line after {}, and m is {m}", counted(count, "row"));
             return Err(text.of_line(row, what, "correct m, or take the line away"));
         }
         if row.len() != usize::from(rho) {
-            let (i, has) = (i + read.first, row.len());
-            let what = format!("row {i} has {has} columns, and rho is {rho}");
+            let (i, has) = (i + read.first, counted(row.len(), "column"));
+            let what = format!("row {i} has {has}, and rho is {rho}");
             return Err(text.of_line(row, what, "is a number missing, or one too many?"));
         }
         read.row(row)?;
     }
     if rows.len() < count {
-        let what = format!("the list ends after {} of {m} rows", rows.len());
+        let what = format!(
+            "the list ends after {}, and m is {m}",
+            counted(rows.len(), "row")
+        );
         return Err(text.at_end(what, "correct m, or add the rows"));
     }
     Ok(())
@@ -79,7 +83,7 @@ mod tests {
             ("3 65536 2 2\n0 1\n", "h:1:2: m: 65536 is above 65535"),
             (
                 "3 3 2 2\n0 1\n1\n0 2\n",
-                "h:3: row 1 has 1 columns, and rho is 2",
+                "h:3: row 1 has 1 column, and rho is 2",
             ),
             (
                 "3 3 2 2\n0 1\n1 2 0\n0 2\n",
@@ -87,11 +91,11 @@ mod tests {
             ),
             (
                 "3 3 2 2\n0 1\n1 2\n",
-                "h:3: the list ends after 2 of 3 rows",
+                "h:3: the list ends after 2 rows, and m is 3",
             ),
             (
                 "3 3 2 2\n0 1\n1 2\n0 2\n\n1 1\n",
-                "h:6: a line after the 3 rows",
+                "h:6: a line after 3 rows, and m is 3",
             ),
             (
                 "3 3 2 2\n0 -1\n1 2\n0 2\n",

@@ -1,6 +1,7 @@
 //! Bare rows: a line of columns for each row, sizes derived.
 
 use super::{weight_of_columns, At, Form, Matrix, MatrixFile};
+use crate::amount::counted;
 use crate::fault::Fault;
 use crate::text::{Line, Text};
 
@@ -10,9 +11,9 @@ pub(super) fn read(text: &Text, from_one: bool) -> Result<MatrixFile, Fault> {
     for (i, line) in text.lines.iter().enumerate() {
         if line.len() != rho {
             let what = format!(
-                "row {} has {} columns and row {} has {rho}: the decoder takes rows of one weight",
+                "row {} has {} and row {} has {rho}: the decoder takes rows of one weight",
                 i + read.first,
-                line.len(),
+                counted(line.len(), "column"),
                 read.first
             );
             return Err(text.of_line(line, what, "is a number missing, or one too many?"));

@@ -1,7 +1,7 @@
 //! The curve: frame and bit error rates over Eb/N0, on a logarithmic axis, with 95 % bars.
 
 use super::tally::{Point, Rate};
-use crate::svg::{short, thousands, Picture};
+use crate::svg::{short, Picture};
 
 const LEFT: f64 = 84.0;
 const TOP: f64 = 96.0;
@@ -232,16 +232,14 @@ fn marker(x: f64, y: f64, round: bool) -> String {
     }
 }
 
-/// `4 dB: frame error rate 4.0e-3 (3.5e-3 to 4.6e-3), 200 of 49,012 blocks`.
+/// `4 dB: frame error rate 4.00e-3 (3.50e-3 to 4.60e-3), 200 of 49,012 blocks wrong`.
 fn tooltip(point: &Point, series: &Series) -> String {
     let Rate { rate, low, high } = (series.of)(point);
-    let (errors, blocks) = (point.tally.frame_errors, point.tally.blocks);
     format!(
-        "{} dB: {} {rate:.2e} ({low:.2e} to {high:.2e}), {} of {} blocks wrong",
+        "{} dB: {} {rate:.2e} ({low:.2e} to {high:.2e}), {}",
         short(point.db.value()),
         series.name,
-        thousands(errors),
-        thousands(blocks)
+        point.tally.wrong()
     )
 }
 

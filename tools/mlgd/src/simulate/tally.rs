@@ -1,6 +1,7 @@
 //! What is counted at a point, and the rates with their intervals.
 
 use super::points::Decibels;
+use crate::amount::{counted, thousands};
 use std::fmt::Write;
 
 /// A point ends when so many frames were wrong.
@@ -40,6 +41,12 @@ impl Tally {
         self.bit_error_squares += (fate.wrong as u64).pow(2);
         self.rounds += fate.rounds as u64;
         self.arrived_wrong += fate.arrived_wrong as u64;
+    }
+
+    /// `200 of 49,012 blocks wrong`.
+    pub fn wrong(&self) -> String {
+        let blocks = counted(self.blocks as usize, "block");
+        format!("{} of {blocks} wrong", thousands(self.frame_errors))
     }
 
     /// Whether the point may end.
@@ -202,6 +209,8 @@ mod tests {
         assert_eq!((tally.blocks, tally.frame_errors), (4, 2));
         assert_eq!((tally.undetected, tally.bit_errors), (1, 25));
         assert!(!tally.is_enough() && fates(&[5; 200]).is_enough());
+        assert_eq!(fates(&[5]).wrong(), "1 of 1 block wrong");
+        assert_eq!(fates(&[5; 1200]).wrong(), "1,200 of 1,200 blocks wrong");
     }
 
     /// As many bits wrong in one frame as count as one event, not as many.

@@ -104,14 +104,14 @@ const FAKE: &str = concat!(env!("CARGO_MANIFEST_DIR"), "/tests/fake");
 #[test]
 fn lost_lines() {
     let folder = folder("lost", &GOOD.repeat(3));
-    let lost = |lines: usize| format!("it printed {lines} lines for 3 blocks: a write was lost");
+    let lost = |lines: &str| format!("it printed {lines} for 3 blocks: a write was lost");
     for (printed, what) in [
         ("", "its first line is not the heading".into()),
-        ("H\n", lost(0)),
-        ("H\n0 decoded 1 0 1 00\n", lost(1)),
+        ("H\n", lost("0 lines")),
+        ("H\n0 decoded 1 0 1 00\n", lost("1 line")),
         (
             "H\n0 decoded 1 0 1 00\n1 decoded 1 0 1 00\n2 decoded 1 0 1 00",
-            lost(3),
+            lost("3 lines"),
         ),
         (
             "H\n0 decoded 1 0 1 00\n1 dec\n",
@@ -253,7 +253,7 @@ fn one_step() {
             "2,1,decoded,1,0,1,1,yes,,x2e",
             "3,2,decoded,1,0,6,6,no,\"changed 6 bits, more than the 1 that is proved to be undone: \
              the word is a codeword but nothing proves it to be the one sent\",x2e",
-            "4,3,refused,,,,,no,one of the last 1 places of the last byte is not 0,",
+            "4,3,refused,,,,,no,the last place of the last byte is not 0: write the word's spare bits as 0,",
         ]
     );
     let (status, rows) = voted("b", "words-b");
