@@ -36,8 +36,11 @@ line, block, outcome, rounds, failing, changed, wrong_bits, within_half, reason,
 --program PATH    the proved program; else decode beside mlgd, or target/bin/decode
 --one-step        one-step voting on hard bits, by the proved library; no setting
 --words W         received words, one a line: hexadecimal, or zeros and ones
+--strict          status 1 also where a block is decoded beyond the half
 
-Status 0: every block decoded; 1: some failed or were refused; 2: a fault, told on standard error.
+Status 0: every block decoded; 1: some are open (failed or refused); 2: a fault, told on standard
+error. A block decoded beyond the half (within_half is no) is not open, but to be looked at: more
+than t = gamma / 2 bits were changed, and nothing proves that its word is the one sent.
 ";
 
 pub const KNOWN: Known = Known {
@@ -52,7 +55,13 @@ pub const KNOWN: Known = Known {
         "--jobs",
         "--program",
     ],
-    flags: &["--header", "--decimal-comma", "--from-one", "--one-step"],
+    flags: &[
+        "--header",
+        "--decimal-comma",
+        "--from-one",
+        "--one-step",
+        "--strict",
+    ],
     files: 0,
 };
 
@@ -71,10 +80,7 @@ pub fn run(words: &[String]) -> Result<Status, Fault> {
         true => one_step::run(&arguments)?,
         false => Job::open(&arguments)?.run(&arguments)?,
     };
-    Ok(match totals.all_decoded() {
-        true => Status::Done,
-        false => Status::Open,
-    })
+    Ok(totals.status(arguments.flag("--strict")))
 }
 
 /// Standard input holds one file.

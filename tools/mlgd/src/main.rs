@@ -46,7 +46,7 @@ fn usage() -> String {
         text += &format!("mlgd {name:<9} {help}\n");
     }
     text + "\nmlgd SUBCOMMAND --help tells its options; mlgd --version the version.\n\
-            Status 0: done, every block decoded; 1: some blocks open or refused; 2: a fault.\n"
+            Status 0: done, every block decoded; 1: some blocks open (failed or refused); 2: a fault.\n"
 }
 
 fn run(words: &[String]) -> Result<Status, Fault> {

@@ -8,6 +8,7 @@ use crate::arguments::{asks_help, Arguments, Known};
 use crate::fault::Fault;
 use crate::lines::shown;
 use crate::output::{print, refuse_same, whole};
+use crate::report::outcomes;
 use crate::status::Status;
 use crate::svg::Picture;
 use blocks::{Block, Blocks, End};
@@ -44,12 +45,13 @@ const LEGEND_WIDTH: f64 = 270.0;
 const LEGEND_LINE: f64 = 20.0;
 
 /// Under the legend.
-const NOTES: [&str; 5] = [
+const NOTES: [&str; 6] = [
     "The half is γ / 2 bits. Within it no other",
     "codeword is so near: it is the block sent,",
     "unless more bits than that arrived wrong.",
-    "Open: a codeword, often the right one,",
-    "but nothing proves it.",
+    "Beyond it: to be looked at. The word is a",
+    "codeword, often the right one, but nothing",
+    "proves it.",
 ];
 
 pub fn run(words: &[String]) -> Result<Status, Fault> {
@@ -150,21 +152,10 @@ fn draw(name: &str, blocks: &Blocks, columns: Option<usize>) -> String {
     picture.finish(&title, &style(&kinds, &layout))
 }
 
-/// `1,700 decoded within the half, 250 decoded beyond it (open), 45 failed, 5 refused`.
+/// The totals of the kinds, all shades within the half in one.
 fn totals(counts: &[u64]) -> String {
-    let shades = counts.len() - 3;
-    let within = counts[..shades].iter().sum();
-    let [within, open, failed, refused] = [
-        within,
-        counts[shades],
-        counts[shades + 1],
-        counts[shades + 2],
-    ]
-    .map(thousands);
-    format!(
-        "{within} decoded within the half, {open} decoded beyond it (open), \
-         {failed} failed, {refused} refused"
-    )
+    let (within, others) = counts.split_at(counts.len() - 3);
+    outcomes([within.iter().sum(), others[0], others[1], others[2]])
 }
 
 fn style(kinds: &Kinds, layout: &Layout) -> String {
@@ -227,7 +218,7 @@ fn draw_single_cells(picture: &mut Picture, blocks: &Blocks, kinds: &Kinds, layo
 fn tooltip(block: &Block, reason: &str) -> String {
     let end = match block.end {
         End::Within(count) => format!("decoded, {}", bits_changed(count)),
-        End::Open(count) => format!("decoded, {}, open", bits_changed(count)),
+        End::Beyond(count) => format!("decoded, {}, beyond the half", bits_changed(count)),
         End::Failed(1) => "failed, 1 check fails".into(),
         End::Failed(failing) => format!("failed, {} fail", counted(failing as usize, "check")),
         End::Refused if reason.is_empty() => "refused".into(),
@@ -241,7 +232,7 @@ fn draw_numbers(picture: &mut Picture, blocks: &[Block], kinds: &Kinds, layout: 
     for (cell, block) in blocks.iter().enumerate() {
         let (column, row) = layout.place(cell);
         let text = match block.end {
-            End::Within(count) | End::Open(count) => count.to_string(),
+            End::Within(count) | End::Beyond(count) => count.to_string(),
             End::Failed(_) => "×".into(),
             End::Refused => "–".into(),
         };
@@ -303,7 +294,7 @@ fn draw_row_tooltips(picture: &mut Picture, blocks: &[Block], layout: &Layout) {
             for block in blocks {
                 counts[match block.end {
                     End::Within(_) => 0,
-                    End::Open(_) => 1,
+                    End::Beyond(_) => 1,
                     End::Failed(_) => 2,
                     End::Refused => 3,
                 }] += 1;

@@ -1,10 +1,11 @@
 //! What is proved of a block's outcome, in words, and the totals of a run.
 
-use crate::amount::counted;
+use crate::amount::{counted, thousands};
 use crate::checked::Answer;
 use crate::matrix_file::Matrix;
 use crate::results::{Counts, Outcome, Row};
 use crate::setting::Setting;
+use crate::status::Status;
 
 /// The promise that a code and a setting carry: at most t wrong bits are undone.
 #[derive(Clone, Copy, Debug)]
@@ -62,12 +63,14 @@ impl Promise {
         let are = if self.t == 1 { "is" } else { "are" };
         format!(
             "changed {bits}, more than the {} that {are} proved to be undone: \
-             the word is a codeword but nothing proves it to be the one sent",
+             the word is a codeword but nothing proves it to be the one sent: \
+             compare it with another reception or send the block again",
             self.t
         )
     }
 
-    /// Why a block is open to doubt, in words; nothing where it is decoded within the half.
+    /// Why a block is open or to be looked at, in words; nothing where it is decoded within the
+    /// half.
     fn reason(&self, answer: &Answer, ended: &Ended) -> String {
         let still = match answer.failing {
             1 => "1 check still fails".into(),
@@ -134,6 +137,15 @@ pub fn refused(line: usize, block: usize, reason: String) -> Row {
     }
 }
 
+/// `1,700 decoded within the half, 250 decoded beyond the half, 45 failed, 5 refused`.
+pub fn outcomes(counts: [u64; 4]) -> String {
+    let [within, beyond, failed, refused] = counts.map(thousands);
+    format!(
+        "{within} decoded within the half, {beyond} decoded beyond the half, \
+         {failed} failed, {refused} refused"
+    )
+}
+
 /// The totals of a run.
 #[derive(Clone, Copy, Debug, Default, PartialEq, Eq)]
 pub struct Totals {
@@ -168,22 +180,32 @@ impl Totals {
         self.weak_blocks += other.weak_blocks;
     }
 
-    /// Whether every block was decoded.
-    pub fn all_decoded(&self) -> bool {
-        self.decoded == self.blocks
+    /// Blocks that were decoded, but to a word that nothing proves to be the one sent.
+    pub fn beyond_half(&self) -> usize {
+        self.decoded - self.within_half
     }
 
-    /// The outcomes, in one line.
+    /// Open where a block failed or was refused; `strict` counts those beyond the half too.
+    pub fn status(&self, strict: bool) -> Status {
+        let all_decoded = self.decoded == self.blocks;
+        match all_decoded && !(strict && self.beyond_half() > 0) {
+            true => Status::Done,
+            false => Status::Open,
+        }
+    }
+
+    /// The outcomes, in one line; and another where blocks are to be looked at.
     pub fn outcomes(&self) -> String {
-        format!(
-            "{}: {} decoded ({} within the half, {} beyond it), {} failed, {} refused",
-            counted(self.blocks, "block"),
-            self.decoded,
-            self.within_half,
-            self.decoded - self.within_half,
-            self.failed,
-            self.refused
-        )
+        let (blocks, beyond) = (counted(self.blocks, "block"), self.beyond_half());
+        let counts = [self.within_half, beyond, self.failed, self.refused];
+        let mut text = format!("{blocks}: {}", outcomes(counts.map(|count| count as u64)));
+        if beyond > 0 {
+            text += &format!(
+                "\nto be looked at: {} decoded beyond the half (within_half is no)",
+                counted(beyond, "block")
+            );
+        }
+        text
     }
 
     /// The sizes and what they promise, in one line; `sizes` comes from the matrix.
@@ -214,7 +236,7 @@ impl Totals {
 
 #[cfg(test)]
 mod tests {
-    use super::{Answer, Ended, Matrix, Promise, Setting};
+    use super::{Answer, Ended, Matrix, Promise, Setting, Status, Totals};
 
     /// Of a code with this gamma, at 8 bits and this limit.
     fn promise(gamma: u16, limit: u8) -> Promise {
@@ -252,7 +274,8 @@ mod tests {
     /// The same words whatever the limit, and no claim of how many bits were wrong.
     #[test]
     fn decoded_beyond_the_half() {
-        let ending = "the word is a codeword but nothing proves it to be the one sent";
+        let ending = "the word is a codeword but nothing proves it to be the one sent: \
+                      compare it with another reception or send the block again";
         for limit in [0, 30, 63, 64, 255] {
             for weak in [false, true] {
                 let expected = format!(
@@ -269,6 +292,38 @@ mod tests {
         let expected =
             format!("changed 1 bit, more than the 0 that are proved to be undone: {ending}");
         assert_eq!(reason(promise(1, 64), true, 1, false), expected);
+    }
+
+    #[test]
+    fn statuses() {
+        let totals = |decoded, within_half, failed, refused| Totals {
+            blocks: decoded + failed + refused,
+            decoded,
+            within_half,
+            failed,
+            refused,
+            ..Totals::default()
+        };
+        for (totals, status, strict) in [
+            (totals(2, 2, 0, 0), Status::Done, Status::Done),
+            (totals(2, 1, 0, 0), Status::Done, Status::Open),
+            (totals(2, 2, 1, 0), Status::Open, Status::Open),
+            (totals(2, 2, 0, 1), Status::Open, Status::Open),
+            (totals(0, 0, 0, 1), Status::Open, Status::Open),
+        ] {
+            assert_eq!(totals.status(false), status, "{totals:?}");
+            assert_eq!(totals.status(true), strict, "{totals:?}");
+        }
+        assert_eq!(
+            totals(1, 1, 0, 0).outcomes(),
+            "1 block: 1 decoded within the half, 0 decoded beyond the half, 0 failed, 0 refused"
+        );
+        assert_eq!(
+            totals(4_000, 1_700, 45, 5).outcomes(),
+            "4,050 blocks: 1,700 decoded within the half, 2,300 decoded beyond the half, \
+             45 failed, 5 refused\n\
+             to be looked at: 2,300 blocks decoded beyond the half (within_half is no)"
+        );
     }
 
     /// How many bits were wrong is said where it follows: with an ample limit, and for one bit

@@ -5,7 +5,8 @@
 pub enum Status {
     /// All is well: every block decoded, the matrix accepted, the file written.
     Done,
-    /// Some block failed or was refused.
+    /// Some block is open: it failed or was refused. Or, where that is asked for, some block was
+    /// decoded beyond the half.
     Open,
 }
 

@@ -11,8 +11,8 @@ pub const WITH_REASON: usize = 2_000;
 pub enum End {
     /// Decoded, with so many wrong bits, and no other codeword is so near.
     Within(u32),
-    /// Decoded, with so many wrong bits, but beyond the half: open to doubt.
-    Open(u32),
+    /// Decoded, with so many wrong bits, but beyond the half: to be looked at.
+    Beyond(u32),
     /// Not decoded; so many checks fail.
     Failed(u32),
     /// Not even tried.
@@ -24,7 +24,7 @@ impl End {
         let count = |of: fn(&Counts) -> usize| row.counts.as_ref().map_or(0, of) as u32;
         match row.outcome {
             Outcome::Decoded if row.within_half => End::Within(count(|c| c.wrong_bits)),
-            Outcome::Decoded => End::Open(count(|c| c.wrong_bits)),
+            Outcome::Decoded => End::Beyond(count(|c| c.wrong_bits)),
             Outcome::Failed => End::Failed(count(|c| c.failing)),
             Outcome::Refused => End::Refused,
         }

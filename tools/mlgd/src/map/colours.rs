@@ -9,11 +9,12 @@ use crate::amount::counted;
 pub const WITHIN: [&str; 6] = [
     "#dceaf7", "#c8def0", "#b3d1e8", "#9ec4e0", "#88b6d8", "#71a8cf",
 ];
-pub const OPEN: &str = "#c26a00";
+pub const BEYOND: &str = "#c26a00";
 pub const FAILED: &str = "#a01818";
 pub const REFUSED: &str = "#1c1c1c";
 
-/// The kinds of a map: some counts of wrong bits within the half, then open, failed and refused.
+/// The kinds of a map: some counts of wrong bits within the half, then beyond it, failed and
+/// refused.
 pub struct Kinds {
     /// The least and the most wrong bits of each shade.
     pub within: Vec<(u32, u32)>,
@@ -50,7 +51,7 @@ impl Kinds {
                 let found = self.within.iter().position(|&(_, most)| count <= most);
                 found.unwrap_or(shades - 1)
             }
-            End::Open(_) => shades,
+            End::Beyond(_) => shades,
             End::Failed(_) => shades + 1,
             End::Refused => shades + 2,
         }
@@ -60,7 +61,7 @@ impl Kinds {
         let shades = self.within.len();
         match kind.checked_sub(shades) {
             None => WITHIN[kind * (WITHIN.len() - 1) / (shades - 1).max(1)],
-            Some(0) => OPEN,
+            Some(0) => BEYOND,
             Some(1) => FAILED,
             Some(_) => REFUSED,
         }
@@ -80,9 +81,9 @@ impl Kinds {
                 (least, most) if least == most => bits_changed(least),
                 (least, most) => format!("{least} to {most} bits changed"),
             },
-            Some(0) => "decoded beyond it: open".into(),
-            Some(1) => "failed".into(),
-            Some(_) => "refused".into(),
+            Some(0) => "decoded beyond the half".into(),
+            Some(1) => "failed: open".into(),
+            Some(_) => "refused: open".into(),
         }
     }
 
@@ -106,7 +107,7 @@ pub fn bits_changed(count: u32) -> String {
 
 #[cfg(test)]
 mod tests {
-    use super::{bits_changed, Kinds, FAILED, OPEN, REFUSED, WITHIN};
+    use super::{bits_changed, Kinds, BEYOND, FAILED, REFUSED, WITHIN};
     use crate::map::blocks::{Blocks, End};
 
     fn kinds(ends: &[End]) -> Kinds {
@@ -132,7 +133,7 @@ mod tests {
     fn each_colour_is_darker_than_the_one_before() {
         let all: Vec<f64> = WITHIN
             .iter()
-            .chain([&OPEN, &FAILED, &REFUSED])
+            .chain([&BEYOND, &FAILED, &REFUSED])
             .map(|colour| lightness(colour))
             .collect();
         for pair in all.windows(2) {
@@ -154,7 +155,7 @@ mod tests {
         assert_eq!(names(&[]), "no bit changed");
         assert_eq!(names(&[End::Within(1)]), "no bit changed, 1 bit changed");
         assert_eq!(
-            names(&[End::Within(15), End::Open(40)]),
+            names(&[End::Within(15), End::Beyond(40)]),
             "no bit changed, 1 to 3 bits changed, 4 to 6 bits changed, 7 to 9 bits changed, \
              10 to 12 bits changed, 13 to 15 bits changed"
         );
@@ -170,7 +171,7 @@ mod tests {
         let ends = [
             End::Within(0),
             End::Within(1),
-            End::Open(2),
+            End::Beyond(2),
             End::Failed(3),
             End::Refused,
             End::Refused,
@@ -179,7 +180,7 @@ mod tests {
         let found = kinds(&ends);
         assert_eq!(found.counts(&all.all), [1, 1, 1, 1, 2]);
         let colours: Vec<&str> = (0..found.count()).map(|kind| found.colour(kind)).collect();
-        assert_eq!(colours, [WITHIN[0], WITHIN[5], OPEN, FAILED, REFUSED]);
+        assert_eq!(colours, [WITHIN[0], WITHIN[5], BEYOND, FAILED, REFUSED]);
         for most in 0..40 {
             let kinds = kinds(&[End::Within(most)]);
             assert_eq!(kinds.kind(End::Within(most)), kinds.count() - 4, "{most}");

@@ -9,7 +9,7 @@ const MAP: &str = include_str!("../../tests/pictures/map.svg");
 /// Each block of another kind than the one before: no runs.
 fn alternating(count: u32) -> Blocks {
     let end = |at: u32| match at % 7 {
-        0 => End::Open(at % 50),
+        0 => End::Beyond(at % 50),
         1 if at.is_multiple_of(5) => End::Failed(3),
         3 if at.is_multiple_of(11) => End::Refused,
         rest => End::Within(rest * 5 % 16),
@@ -34,15 +34,17 @@ fn the_stored_picture_has_its_parts() {
     assert!(tags_balance(MAP).is_ok());
     for part in [
         "results.csv: 8 blocks",
-        "4 decoded within the half, 1 decoded beyond it (open), 1 failed, 2 refused",
+        "4 decoded within the half, 1 decoded beyond the half, 1 failed, 2 refused",
         "<title>block 17: decoded, 2 bits changed</title>",
         "<title>block 18: decoded, no bit changed</title>",
         "<title>block 19: decoded, 1 bit changed</title>",
-        "<title>block 20: decoded, 12 bits changed, open</title>",
+        "<title>block 20: decoded, 12 bits changed, beyond the half</title>",
         "<title>block 21: failed, 6 checks fail</title>",
         "<title>block 22: refused, sample 3 is nan, &quot;not&quot; a number</title>",
         "<title>block 24: refused</title>",
-        ">decoded beyond it: open</text>",
+        ">decoded beyond the half</text>",
+        ">failed: open</text>",
+        ">refused: open</text>",
     ] {
         assert!(MAP.contains(part), "{part}");
     }

@@ -37,6 +37,36 @@ fn statuses() {
     );
 }
 
+/// Document 01's P8 and P3: decoded, but seven and six bits were changed where one is proved to be
+/// undone. Not open, yet told; with --strict the status tells it too.
+#[test]
+fn beyond_the_half() {
+    let Some(program) = program() else { return };
+    let folder = folder("beyond", "0.1,0.1,0.1,0.1,0.1,0.1,0.1\n");
+    let said =
+        "1 block: 0 decoded within the half, 1 decoded beyond the half, 0 failed, 0 refused\n\
+                to be looked at: 1 block decoded beyond the half (within_half is no)\n";
+    for (strict, status) in [(&[][..], 0), (&["--strict"], 1)] {
+        let ran = folder.decode(&program, "bits 3 limit 5 level-step 0.5", strict);
+        assert_eq!(ran.status, status, "{ran:?}");
+        assert!(ran.said.starts_with(said), "{}", ran.said);
+        let row = folder.read("r").lines().nth(1).unwrap().to_string();
+        assert!(row.starts_with("1,0,decoded,1,0,7,7,no,"), "{row}");
+        assert!(row.ends_with(",x00"), "{row}");
+    }
+    folder.write("words", "xc0\n");
+    let words = ["decode", "--one-step", "--matrix", "h", "--words", "words"];
+    for (strict, status) in [(&[][..], 0), (&["--strict"], 1)] {
+        let ran = folder.run(&[&words, strict].concat());
+        assert_eq!(ran.status, status, "{ran:?}");
+        assert!(ran.said.starts_with(said), "{}", ran.said);
+    }
+    folder.write("y", GOOD);
+    let ran = folder.decode(&program, SETTING, &["--strict"]);
+    assert_eq!(ran.status, 0, "{ran:?}");
+    assert!(!ran.said.contains("to be looked at"), "{}", ran.said);
+}
+
 /// A full disk is told, with status 2: the table, the input, the help.
 #[test]
 fn a_full_disk() {
@@ -252,7 +282,8 @@ fn one_step() {
             "1,0,decoded,0,0,0,0,yes,,x2e",
             "2,1,decoded,1,0,1,1,yes,,x2e",
             "3,2,decoded,1,0,6,6,no,\"changed 6 bits, more than the 1 that is proved to be undone: \
-             the word is a codeword but nothing proves it to be the one sent\",x2e",
+             the word is a codeword but nothing proves it to be the one sent: compare it with \
+             another reception or send the block again\",x2e",
             "4,3,refused,,,,,no,the last place of the last byte is not 0: write the word's spare bits as 0,",
         ]
     );

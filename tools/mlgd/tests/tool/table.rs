@@ -65,6 +65,37 @@ fn compare_refused(row: &Row, samples: &[f32], place: usize) {
     assert_eq!(row.reason, reason);
 }
 
+/// The totals that the reference's lines make.
+fn totals(lines: &[&str], blocks: &[Vec<f32>], code: &Code) -> String {
+    let mut counts = [0; 4];
+    for (line, samples) in lines.iter().zip(blocks) {
+        let fields: Vec<&str> = line.split(' ').collect();
+        counts[match fields[1] {
+            "decoded" if within_half(fields[5], samples, code) => 0,
+            "decoded" => 1,
+            "failed" => 2,
+            _ => 3,
+        }] += 1;
+    }
+    let [within, beyond, failed, refused] = counts;
+    format!(
+        "{} blocks: {within} decoded within the half, {beyond} decoded beyond the half, \
+         {failed} failed, {refused} refused\n",
+        blocks.len()
+    )
+}
+
+/// Whether the reference's word differs from the hard bits in at most half of gamma places.
+fn within_half(word: &str, samples: &[f32], code: &Code) -> bool {
+    let bit = |at: usize| {
+        let digit = word.as_bytes()[at / 4] as char;
+        digit.to_digit(16).unwrap() >> (3 - at % 4) & 1 == 1
+    };
+    let differs = |&(at, &sample): &(usize, &f32)| bit(at) != hard_bit(sample);
+    let count = samples.iter().enumerate().filter(differs).count();
+    count <= usize::from(code.matrix.gamma / 2)
+}
+
 /// Decodes blocks by the tool and by the reference.
 fn whole_file(program: &str, code: &Code, setting: &Setting, blocks: &[Vec<f32>], jobs: &str) {
     let folder = Folder::new(&format!("table-{}-{}-{jobs}", code.matrix.n, setting.bits));
@@ -80,9 +111,11 @@ fn whole_file(program: &str, code: &Code, setting: &Setting, blocks: &[Vec<f32>]
     assert_eq!(folder.read("r").lines().next(), Some(COLUMNS));
     let rows = rows(&folder, "r");
     assert_eq!(rows.len(), blocks.len(), "{}", code.name);
-    for (at, (row, line)) in rows.iter().zip(lines).enumerate() {
+    for (at, (row, line)) in rows.iter().zip(&lines).enumerate() {
         compare(row, line, &blocks[at], code, at);
     }
+    let totals = totals(&lines, blocks, code);
+    assert!(ran.said.starts_with(&totals), "{totals}: {}", ran.said);
     let level_0 = |block: &Vec<f32>| {
         let finite = block.iter().filter(|y| y.is_finite());
         finite.filter(|&&y| level(setting, y) == 0).count()
@@ -170,7 +203,7 @@ fn the_summary() {
     let ran = folder.decode(&program, "bits 8 limit 30 level-step 0.1", &[]);
     assert_eq!(
         ran.said,
-        "2 blocks: 2 decoded (2 within the half, 0 beyond it), 0 failed, 0 refused\n\
+        "2 blocks: 2 decoded within the half, 0 decoded beyond the half, 0 failed, 0 refused\n\
          n 9, m 6, rho 3, gamma 2, t 1, blocks 2, samples at level 0: 1; limit 30 does not carry \
          the promise: limit 64 (L / 2 + 1) does; gamma is even: it holds for t - 1 in the blocks \
          with a sample above 0 at level 0, which are 1\n"
