@@ -139,7 +139,7 @@ impl Job {
             samples: SamplesFile::open(file, matrix.matrix.n, form)?,
             matrix,
             decoder,
-            progress: Progress::new(),
+            progress: Progress::new(arguments.value("--out")),
         })
     }
 
@@ -172,7 +172,8 @@ impl Job {
         let mut first = 0;
         let (decoder, samples, progress) = (&self.decoder, &mut self.samples, &mut self.progress);
         thread::scope(|scope| {
-            let mut running: VecDeque<ScopedJoinHandle<Result<Decoded, Fault>>> = VecDeque::new();
+            // Each run with how much of the file is done when it has ended.
+            let mut running: VecDeque<(Option<f64>, Run)> = VecDeque::new();
             let mut wrong = None;
             loop {
                 let batch = match Batch::read(samples, decoder, first) {
@@ -184,15 +185,16 @@ impl Job {
                 };
                 let ended = batch.is_none();
                 while running.len() >= if ended { 1 } else { jobs } {
-                    let Some(run) = running.pop_front() else {
+                    let Some((share, run)) = running.pop_front() else {
                         break;
                     };
                     totals.add(&written(run, output)?);
-                    progress.show(samples.share(), totals.blocks);
+                    progress.show(share, totals.blocks);
                 }
                 let Some(batch) = batch else { break };
                 first += batch.lines.len();
-                running.push_back(scope.spawn(move || decoder.decode(&batch)));
+                let run = scope.spawn(move || decoder.decode(&batch));
+                running.push_back((samples.share(), run));
             }
             match wrong {
                 Some(fault) => Err(fault),
@@ -202,11 +204,11 @@ impl Job {
     }
 }
 
+/// A run of the program that is going on.
+type Run<'scope> = ScopedJoinHandle<'scope, Result<Decoded, Fault>>;
+
 /// Waits for a run and writes its rows.
-fn written(
-    run: ScopedJoinHandle<Result<Decoded, Fault>>,
-    output: &mut Output,
-) -> Result<Totals, Fault> {
+fn written(run: Run, output: &mut Output) -> Result<Totals, Fault> {
     let broken = || Fault::new("mlgd", "a run broke off");
     let decoded = run.join().map_err(|_| broken())??;
     output.write(&decoded.rows)?;

@@ -86,7 +86,7 @@ pub fn run(arguments: &Arguments) -> Result<Totals, Fault> {
     let mut output = Output::create(out)?;
     output.write(format!("{COLUMNS}\n").as_bytes())?;
     let promise = Promise::one_step(&matrix.matrix);
-    let (mut totals, mut progress, mut text) = (Totals::default(), Progress::new(), Vec::new());
+    let (mut totals, mut progress, mut text) = (Totals::default(), Progress::new(out), Vec::new());
     while let Some((line, received)) = source.next()? {
         let row = voted(&matrix.matrix, &promise, line, totals.blocks, received);
         totals.count(&row);
