@@ -40,7 +40,9 @@ impl Arguments {
         };
         let mut words = words.iter();
         while let Some(word) = words.next() {
-            if word.starts_with('-') && word != "-" {
+            if word.is_empty() {
+                return Err(arguments.misused("a file name is empty"));
+            } else if word.starts_with('-') && word != "-" {
                 arguments.option(word, &mut words, known)?;
             } else if arguments.files.len() < known.files {
                 arguments.files.push(word.clone());
@@ -78,6 +80,9 @@ impl Arguments {
         let Some(value) = attached.or_else(|| words.next().cloned()) else {
             return Err(self.misused(format!("{name} has nothing after it")));
         };
+        if value.is_empty() {
+            return Err(self.misused(format!("what stands after {name} is empty")));
+        }
         self.values.push((name, value));
         Ok(())
     }
@@ -172,6 +177,7 @@ mod tests {
             ("--jobs 1 --jobs 2", "--jobs comes twice"),
             ("--header=yes", "--header has no value"),
             ("a b", "`b` is one file name too many"),
+            ("--jobs=", "what stands after --jobs is empty"),
         ] {
             assert_eq!(
                 message(line),

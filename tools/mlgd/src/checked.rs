@@ -29,10 +29,10 @@ pub fn matrix(file: &MatrixFile) -> Result<(), Fault> {
         3 => Err(entry(file, place)),
         4 => Err(weight(file, place)),
         5 => Err(overlap(file, place)),
-        number => Err(Fault::new(
-            &file.file,
-            format!("refusal {number} at {place}"),
-        )),
+        number => {
+            let what = format!("refusal {number} at {place}");
+            Err(Fault::new(&file.file, what).remedy("README has what it means"))
+        }
     }
 }
 

@@ -2,8 +2,9 @@
 
 use crate::arguments::{asks_help, Arguments, Known};
 use crate::fault::Fault;
+use crate::lines::shown;
 use crate::matrix_file::{Matrix, MatrixFile};
-use crate::output::{print, refuse_same, Output};
+use crate::output::{keep_apart, print, tell, Output};
 use crate::program::{refuse_odd_word, BlockLine, Program};
 use crate::progress::Progress;
 use crate::report::{refused, Ended, Promise, Totals};
@@ -92,6 +93,12 @@ pub fn once_standard_input(arguments: &Arguments, inputs: &[&str]) -> Result<(),
     }
 }
 
+/// A file without a single block or word.
+pub fn nothing_in(file: &str, what: &str) -> Fault {
+    let what = format!("there is no {what} in it");
+    Fault::new(shown(file), what).remedy("is this the right file?")
+}
+
 /// How the samples are written, as the options say.
 pub fn form(arguments: &Arguments) -> Result<Form, Fault> {
     Ok(Form {
@@ -147,21 +154,17 @@ impl Job {
     fn run(mut self, arguments: &Arguments) -> Result<Totals, Fault> {
         let jobs = arguments.number("--jobs", 1..=64, 1)?;
         let out = arguments.value("--out");
-        let inputs = ["--matrix", "--samples", "--setting"].map(|name| arguments.value(name));
-        refuse_same(out, &inputs.map(Option::unwrap_or_default))?;
+        keep_apart(&[out], &INPUTS.map(|name| arguments.value(name)))?;
         let mut output = Output::create(out)?;
         output.write(format!("{COLUMNS}\n").as_bytes())?;
         let totals = self.decode(jobs, &mut output)?;
         self.progress.clear();
         if totals.blocks == 0 {
-            let file = arguments.value("--samples").unwrap_or_default();
-            let fault = Fault::new(file, "there is no block in it");
-            return Err(fault.remedy("is this the right file?"));
+            return Err(nothing_in(arguments.needed("--samples")?, "block"));
         }
         output.finish()?;
-        eprintln!("{}", totals.outcomes());
-        let summary = totals.summary(&self.matrix.summary(), &self.decoder.promise);
-        eprintln!("{summary}");
+        tell(totals.outcomes());
+        tell(totals.summary(&self.matrix.summary(), &self.decoder.promise));
         Ok(totals)
     }
 
@@ -209,7 +212,7 @@ type Run<'scope> = ScopedJoinHandle<'scope, Result<Decoded, Fault>>;
 
 /// Waits for a run and writes its rows.
 fn written(run: Run, output: &mut Output) -> Result<Totals, Fault> {
-    let broken = || Fault::new("mlgd", "a run broke off");
+    let broken = || Fault::new("mlgd", "a run broke off").remedy("run it again");
     let decoded = run.join().map_err(|_| broken())??;
     output.write(&decoded.rows)?;
     Ok(decoded.totals)

@@ -1,7 +1,7 @@
 //! What is wrong with an input or with the system: where it is, what it is, what to do about it.
 
 use std::fmt;
-use std::io;
+use std::io::{self, ErrorKind};
 
 /// A reason to stop. It is shown as `file:line:field: what, remedy`, and the status is 2.
 #[derive(Clone, Debug, PartialEq, Eq)]
@@ -51,13 +51,21 @@ impl Fault {
     /// What the system says of a file.
     pub fn system(file: impl Into<String>, error: &io::Error) -> Fault {
         let remedy = match error.kind() {
-            io::ErrorKind::NotFound => "is the name right?",
-            io::ErrorKind::PermissionDenied => "are you allowed to use it?",
-            io::ErrorKind::StorageFull => "make room and run it again: what is there is not whole",
-            io::ErrorKind::BrokenPipe => "what reads the output ended too early",
-            _ => "",
+            ErrorKind::NotFound | ErrorKind::NotADirectory => "is the name right?",
+            ErrorKind::IsADirectory => "give the name of a file",
+            ErrorKind::PermissionDenied => "are you allowed to use it?",
+            ErrorKind::ReadOnlyFilesystem => "give a folder that can be written to",
+            ErrorKind::InvalidFilename => "give a shorter name",
+            ErrorKind::StorageFull | ErrorKind::QuotaExceeded => {
+                "make room and run it again: what is there is not whole"
+            }
+            ErrorKind::BrokenPipe => "what reads the output ended too early",
+            _ => "look at the file and its disk, and run it again",
         };
-        Fault::new(file, error.to_string()).remedy(remedy)
+        let said = error.to_string();
+        // Its number says nothing more.
+        let what = said.split(" (os error").next().unwrap_or_default();
+        Fault::new(file, what).remedy(remedy)
     }
 }
 

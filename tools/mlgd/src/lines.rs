@@ -1,5 +1,6 @@
 //! A file read line by line, in memory that does not grow with it.
 
+use crate::amount::thousands;
 use crate::fault::{Fault, Place};
 use crate::number;
 use std::fs::File;
@@ -93,10 +94,9 @@ impl Lines {
             return Err(self.place().fault(what, remedy));
         }
         if !whole && line.len() as u64 >= LONGEST - 1 {
-            let what = format!("this line is longer than {LONGEST} bytes");
-            return Err(self
-                .place()
-                .fault(what, "put each block on a line of its own"));
+            let what = format!("this line is longer than {} bytes", thousands(LONGEST));
+            let remedy = "is this the right file? Each block or row has a line of its own";
+            return Err(self.place().fault(what, remedy));
         }
         String::from_utf8(line).map_err(|error| {
             let at = error.utf8_error().valid_up_to();

@@ -3,6 +3,7 @@
 use mlgd::fault::Fault;
 use mlgd::status::{Status, FAULT};
 use mlgd::{decode, map, matrix, output, pack, simulate, unpack};
+use std::ffi::OsString;
 use std::process::ExitCode;
 
 /// A subcommand: its name, what it does, and the function that does it.
@@ -66,15 +67,21 @@ fn run(words: &[String]) -> Result<Status, Fault> {
     }
 }
 
+/// A word of the command line. A name that is no UTF-8 is refused: a file of another name would be
+/// read or written.
+fn word(word: OsString) -> Result<String, Fault> {
+    word.into_string().map_err(|word| {
+        let what = format!("`{}` is no UTF-8 text", word.display());
+        Fault::new("mlgd", what).remedy("rename the file, or write the word anew")
+    })
+}
+
 fn main() -> ExitCode {
-    let words: Vec<String> = std::env::args_os()
-        .skip(1)
-        .map(|word| word.to_string_lossy().into_owned())
-        .collect();
-    match run(&words) {
+    let words: Result<Vec<String>, Fault> = std::env::args_os().skip(1).map(word).collect();
+    match words.and_then(|words| run(&words)) {
         Ok(status) => status.code().into(),
         Err(fault) => {
-            eprintln!("{fault}");
+            output::tell(fault);
             FAULT.into()
         }
     }

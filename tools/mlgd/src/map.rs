@@ -7,7 +7,7 @@ use crate::amount::{counted, thousands};
 use crate::arguments::{asks_help, Arguments, Known};
 use crate::fault::Fault;
 use crate::lines::shown;
-use crate::output::{print, refuse_same, whole};
+use crate::output::{keep_apart, print, whole};
 use crate::report::outcomes;
 use crate::status::Status;
 use crate::svg::Picture;
@@ -64,7 +64,7 @@ pub fn run(words: &[String]) -> Result<Status, Fault> {
     };
     let columns = Some(arguments.number("--columns", 1..=1_000, 0)?).filter(|&n| n > 0);
     let out = arguments.value("--out");
-    refuse_same(out, &[file])?;
+    keep_apart(&[out], &[Some(file)])?;
     let blocks = Blocks::open(file)?;
     whole(out, &draw(&title_of(file), &blocks, columns))?;
     Ok(Status::Done)

@@ -4,7 +4,7 @@ use crate::arguments::{asks_help, Arguments, Known};
 use crate::checked;
 use crate::fault::Fault;
 use crate::matrix_file::MatrixFile;
-use crate::output::{print, refuse_same, whole};
+use crate::output::{keep_apart, print, tell, whole};
 use crate::status::Status;
 
 pub const USAGE: &str = "\
@@ -58,11 +58,11 @@ pub fn run(words: &[String]) -> Result<Status, Fault> {
         "alist" => file.matrix.alist(),
         _ => return Err(arguments.misused(format!("--to is alist, list or rows, and not `{to}`"))),
     };
-    let no_form = || Fault::new(&file.file, "this matrix has no such form");
+    let no_form = || Fault::new(&file.file, "this matrix has no such form").remedy("try --to list");
     let text = text.ok_or_else(no_form)?;
     let out = arguments.value("--out");
-    refuse_same(out, &[name])?;
+    keep_apart(&[out], &[Some(name)])?;
     whole(out, &text)?;
-    eprintln!("{verdict}");
+    tell(verdict);
     Ok(Status::Done)
 }

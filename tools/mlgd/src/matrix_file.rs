@@ -122,9 +122,11 @@ impl MatrixFile {
     }
 }
 
-/// A line's fields as numbers, if all are.
+/// A line's fields as numbers, if all are; one that is too large for any size is the largest.
 fn numbers(line: &Line) -> Option<Vec<u64>> {
-    line.fields().map(|field| field.parse().ok()).collect()
+    let digits = |field: &str| field.bytes().all(|byte| byte.is_ascii_digit());
+    let number = |field: &str| digits(field).then(|| field.parse().unwrap_or(u64::MAX));
+    line.fields().map(number).collect()
 }
 
 /// Whether a line consists of zeros and ones alone.
@@ -249,5 +251,16 @@ mod tests {
         let message = |contents: &str| MatrixFile::of("h", contents).unwrap_err().to_string();
         assert!(message("").starts_with("h:1: a matrix is missing"));
         assert!(message("0 1\n").starts_with("h:1: `0 1` could be columns or bits"));
+        let huge = "99999999999999999999";
+        let said = message(&format!("{huge} 1 2 3\n0 1\n"));
+        assert!(
+            said.starts_with(&format!("h:1:1: n: {huge} is above 65535")),
+            "{said}"
+        );
+        let said = message("4294967295 4294967295\n4294967295 4294967295\n");
+        assert!(
+            said.starts_with("h:1:1: the sizes n and m: 4294967295 is above 65535"),
+            "{said}"
+        );
     }
 }

@@ -2,10 +2,10 @@
 
 use crate::arguments::Arguments;
 use crate::checked;
-use crate::decode::{accepted, form, once_standard_input, INPUTS};
+use crate::decode::{accepted, form, nothing_in, once_standard_input, INPUTS};
 use crate::fault::Fault;
 use crate::matrix_file::Matrix;
-use crate::output::{refuse_same, Output};
+use crate::output::{keep_apart, tell, Output};
 use crate::progress::Progress;
 use crate::report::{refused, Ended, Promise, Totals};
 use crate::results::{Row, COLUMNS};
@@ -81,8 +81,7 @@ pub fn run(arguments: &Arguments) -> Result<Totals, Fault> {
     let matrix = accepted(arguments)?;
     let mut source = Source::open(arguments, matrix.matrix.n)?;
     let out = arguments.value("--out");
-    let inputs = ["--matrix", "--samples", "--words"].map(|name| arguments.value(name));
-    refuse_same(out, &inputs.map(Option::unwrap_or_default))?;
+    keep_apart(&[out], &INPUTS.map(|name| arguments.value(name)))?;
     let mut output = Output::create(out)?;
     output.write(format!("{COLUMNS}\n").as_bytes())?;
     let promise = Promise::one_step(&matrix.matrix);
@@ -97,11 +96,12 @@ pub fn run(arguments: &Arguments) -> Result<Totals, Fault> {
     }
     progress.clear();
     if totals.blocks == 0 {
-        return Err(arguments.misused("there is no word in the file"));
+        let file = arguments.value("--words").or(arguments.value("--samples"));
+        return Err(nothing_in(file.unwrap_or_default(), "word"));
     }
     output.finish()?;
-    eprintln!("{}", totals.outcomes());
-    eprintln!("{}", totals.summary(&matrix.summary(), &promise));
+    tell(totals.outcomes());
+    tell(totals.summary(&matrix.summary(), &promise));
     Ok(totals)
 }
 

@@ -3,46 +3,37 @@
 
 use crate::fault::Fault;
 use std::fs::{self, File};
-use std::io::{self, BufWriter, Write};
-use std::path::PathBuf;
+use std::io::{self, BufWriter, ErrorKind, Write};
+use std::path::{Path, PathBuf};
 
 /// An output that is whole when [`Output::finish`] says so.
 pub struct Output {
     name: String,
     writer: BufWriter<Box<dyn Write>>,
-    /// The file being written, and where it goes in the end.
-    part: Option<(File, PathBuf, PathBuf)>,
+    part: Option<Part>,
 }
 
 impl Output {
-    /// A file, or standard output for none and for `-`. While a file is being written it is
-    /// called `NAME.part`.
+    /// A file, or standard output for none and for `-`. While a file is being written it has
+    /// another name beside its own.
     pub fn create(file: Option<&str>) -> Result<Output, Fault> {
         let Some(name) = file.filter(|name| *name != "-") else {
-            let writer: Box<dyn Write> = Box::new(io::stdout());
-            return Ok(Output::of("standard output", writer, None));
+            return Ok(Output::of("standard output", io::stdout(), None));
         };
-        let special = fs::metadata(name).is_ok_and(|data| !data.is_file());
-        let path = match special {
-            true => name.to_string(),
-            false => format!("{name}.part"),
-        };
-        let file = match special {
-            true => File::options().write(true).open(&path),
-            false => File::create(&path),
-        };
-        let file = file.map_err(|error| Fault::system(&path, &error))?;
-        let again = file
-            .try_clone()
-            .map_err(|error| Fault::system(&path, &error))?;
-        let part = (!special).then(|| (again, path.into(), name.into()));
-        Ok(Output::of(name, Box::new(file), part))
+        let fault = |error| not_created(name, &error);
+        if fs::metadata(name).is_ok_and(|data| !data.is_file()) {
+            let device = File::options().write(true).open(name).map_err(fault)?;
+            return Ok(Output::of(name, device, None));
+        }
+        let part = Part::create(name).map_err(fault)?;
+        let file = part.file.try_clone().map_err(fault)?;
+        Ok(Output::of(name, file, Some(part)))
     }
 
-    fn of(name: &str, writer: Box<dyn Write>, part: Option<(File, PathBuf, PathBuf)>) -> Output {
+    fn of(name: &str, writer: impl Write + 'static, part: Option<Part>) -> Output {
         Output {
             name: name.into(),
-            writer: BufWriter::with_capacity(1 << 16, writer),
+            writer: BufWriter::with_capacity(1 << 16, Box::new(writer)),
             part,
         }
     }
@@ -55,23 +46,53 @@ impl Output {
     /// Sees to it that all is written, and gives the file its name.
     pub fn finish(mut self) -> Result<(), Fault> {
         let flushed = self.writer.flush();
-        flushed.map_err(|error| Fault::system(&self.name, &error))?;
-        let Some((file, part, whole)) = &self.part else {
-            return Ok(());
-        };
-        let kept = file.sync_all().and_then(|()| fs::rename(part, whole));
-        kept.map_err(|error| Fault::system(&self.name, &error))?;
-        self.part = None;
-        Ok(())
+        let kept = flushed.and_then(|()| self.part.take().map_or(Ok(()), Part::keep));
+        kept.map_err(|error| Fault::system(&self.name, &error))
     }
 }
 
-impl Drop for Output {
-    /// What is not whole is taken away.
+/// A file that is not whole yet. Unless it is kept, it is taken away again.
+struct Part {
+    file: File,
+    path: PathBuf,
+    whole: PathBuf,
+}
+
+impl Part {
+    /// The name is new, so that no file is lost by it, whatever else is called so; and it is this
+    /// run's own, so that two runs with one output do not write into each other's.
+    fn create(name: &str) -> io::Result<Part> {
+        // A link stays a link.
+        let whole = fs::canonicalize(name).unwrap_or_else(|_| name.into());
+        let mut path = whole.clone().into_os_string();
+        path.push(format!(".{}.part", std::process::id()));
+        Ok(Part {
+            file: File::create_new(&path)?,
+            path: path.into(),
+            whole,
+        })
+    }
+
+    fn keep(self) -> io::Result<()> {
+        self.file.sync_all()?;
+        fs::rename(&self.path, &self.whole)
+    }
+}
+
+impl Drop for Part {
+    /// Once it is kept, its old name is gone and nothing is removed.
     fn drop(&mut self) {
-        if let Some((_, part, _)) = &self.part {
-            fs::remove_file(part).ok();
-        }
+        fs::remove_file(&self.path).ok();
+    }
+}
+
+/// What the system says of a file that cannot be made.
+fn not_created(name: &str, error: &io::Error) -> Fault {
+    let fault = Fault::system(name, error);
+    match error.kind() {
+        ErrorKind::NotFound => fault.remedy("make its folder first, or give another name"),
+        ErrorKind::PermissionDenied => fault.remedy("give a folder that you may write to"),
+        _ => fault,
     }
 }
 
@@ -87,21 +108,52 @@ pub fn print(text: &str) -> Result<(), Fault> {
     whole(None, text)
 }
 
-/// Refuses an output that would replace one of the inputs.
-pub fn refuse_same(out: Option<&str>, inputs: &[&str]) -> Result<(), Fault> {
-    let Some(out) = out.filter(|out| *out != "-") else {
-        return Ok(());
-    };
-    let path = |file: &str| fs::canonicalize(file).ok().filter(|path| path.is_file());
-    let Some(there) = path(out) else {
-        return Ok(());
-    };
-    if inputs
-        .iter()
-        .any(|input| path(input).as_ref() == Some(&there))
-    {
-        let what = "the output would replace an input";
-        return Err(Fault::new(out, what).remedy("give it another name"));
+/// Tells a line on standard error. If that is full or closed there is nobody to tell: the status
+/// still says how it ended.
+pub fn tell(line: impl std::fmt::Display) {
+    writeln!(io::stderr(), "{line}").ok();
+}
+
+/// Refuses an output that would replace an input or an output before it. Names that are not given
+/// are none.
+pub fn keep_apart(outputs: &[Option<&str>], inputs: &[Option<&str>]) -> Result<(), Fault> {
+    let read = inputs.iter().flatten().filter(|input| **input != "-");
+    let read: Vec<PathBuf> = read.filter_map(|input| place(input)).collect();
+    let mut written = Vec::new();
+    for output in outputs.iter().flatten() {
+        let Some(place) = place(output) else {
+            continue;
+        };
+        let what = match (read.contains(&place), written.contains(&place)) {
+            (true, _) => "the output would replace an input",
+            (_, true) => "two outputs would go there",
+            _ => {
+                written.push(place);
+                continue;
+            }
+        };
+        let name = match *output {
+            "-" => "standard output",
+            name => name,
+        };
+        return Err(Fault::new(name, what).remedy("give it another name"));
     }
     Ok(())
+}
+
+/// Where a file is or will be, by whatever name; none for a device, which takes any number of
+/// outputs.
+fn place(file: &str) -> Option<PathBuf> {
+    if file == "-" {
+        return Some(file.into());
+    }
+    if let Ok(path) = fs::canonicalize(file) {
+        return Some(path).filter(|path| path.is_file());
+    }
+    let path = Path::new(file);
+    let folder = match path.parent()? {
+        folder if folder == Path::new("") => Path::new("."),
+        folder => folder,
+    };
+    Some(fs::canonicalize(folder).ok()?.join(path.file_name()?))
 }

@@ -2,9 +2,10 @@
 
 use crate::amount::counted;
 use crate::arguments::{asks_help, Arguments, Known};
-use crate::decode::{accepted, form, once_standard_input, INPUTS};
+use crate::decode::{accepted, form, nothing_in, once_standard_input, INPUTS};
 use crate::fault::Fault;
-use crate::output::{print, refuse_same, Output};
+use crate::lines::shown;
+use crate::output::{keep_apart, print, tell, Output};
 use crate::samples_file::SamplesFile;
 use crate::status::Status;
 use crate::{checked, stream};
@@ -48,40 +49,41 @@ pub fn run(words: &[String]) -> Result<Status, Fault> {
     let name = arguments.needed("--samples")?;
     let samples = SamplesFile::open(name, matrix.matrix.n, form(&arguments)?)?;
     let out = arguments.value("--out");
-    refuse_same(out, &[name, arguments.needed("--matrix")?])?;
+    let inputs = INPUTS.map(|name| arguments.value(name));
+    keep_apart(&[out], &inputs)?;
     if out.is_none_or(|out| out == "-") && stdout().is_terminal() {
         return Err(arguments.misused("the input is no text for a terminal: give --out"));
     }
     let mut packing = Packing {
+        file: name,
         head: stream::head(&matrix.matrix, &setting),
         samples,
         blocks: 0,
     };
     let files = match arguments.value("--split") {
-        None => packing.whole(name, out)?,
+        None => packing.whole(out)?,
         Some(_) => {
             let most = arguments.number("--split", 1..=stream::MOST_BLOCKS, 1)?;
-            packing.split(most, arguments.needed("--out")?)?
+            packing.split(most, arguments.needed("--out")?, &inputs)?
         }
     };
-    eprintln!(
-        "{}, blocks {}, files {files}",
-        matrix.summary(),
-        packing.blocks
-    );
+    let (sizes, blocks) = (matrix.summary(), packing.blocks);
+    tell(format!("{sizes}, blocks {blocks}, files {files}"));
     Ok(Status::Done)
 }
 
 /// Blocks on their way from text to bytes.
-struct Packing {
+struct Packing<'a> {
+    /// The samples' name.
+    file: &'a str,
     head: Vec<u8>,
     samples: SamplesFile,
     blocks: usize,
 }
 
-impl Packing {
+impl Packing<'_> {
     /// All blocks in one input.
-    fn whole(&mut self, name: &str, out: Option<&str>) -> Result<usize, Fault> {
+    fn whole(&mut self, out: Option<&str>) -> Result<usize, Fault> {
         let mut output = Output::create(out)?;
         output.write(&self.head)?;
         let mut block = Vec::new();
@@ -89,19 +91,23 @@ impl Packing {
             if self.blocks > stream::MOST_BLOCKS {
                 let most = counted(stream::MOST_BLOCKS, "block");
                 let what = format!("the program reads {most} of a run at most");
-                return Err(Fault::new(name, what).remedy("give --split, or use mlgd decode"));
+                let remedy = "give --split, or use mlgd decode";
+                return Err(Fault::new(shown(self.file), what).remedy(remedy));
             }
             output.write(&block)?;
         }
+        self.refuse_nothing()?;
         output.finish().map(|()| 1)
     }
 
-    /// So many blocks to a file.
-    fn split(&mut self, most: usize, out: &str) -> Result<usize, Fault> {
+    /// So many blocks to a file, none of which is an input.
+    fn split(&mut self, most: usize, out: &str, inputs: &[Option<&str>]) -> Result<usize, Fault> {
         let (mut block, mut files) = (Vec::new(), 0);
         let mut more = self.next_block(&mut block)?;
         while more {
-            let mut output = Output::create(Some(&format!("{out}.{files:04}")))?;
+            let name = format!("{out}.{files:04}");
+            keep_apart(&[Some(&name)], inputs)?;
+            let mut output = Output::create(Some(&name))?;
             output.write(&self.head)?;
             for _ in 0..most {
                 if !more {
@@ -113,7 +119,15 @@ impl Packing {
             output.finish()?;
             files += 1;
         }
+        self.refuse_nothing()?;
         Ok(files)
+    }
+
+    fn refuse_nothing(&self) -> Result<(), Fault> {
+        match self.blocks {
+            0 => Err(nothing_in(self.file, "block")),
+            _ => Ok(()),
+        }
     }
 
     /// The next block's bytes. False at the end.

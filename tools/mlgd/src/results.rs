@@ -11,6 +11,9 @@ use std::io::Write;
 pub const COLUMNS: &str =
     "line,block,outcome,rounds,failing,changed,wrong_bits,within_half,reason,word";
 
+/// The largest count of a block's rounds, checks or bits.
+const MOST_COUNTED: usize = 1_023;
+
 #[derive(Clone, Copy, Debug, PartialEq, Eq)]
 pub enum Outcome {
     Decoded,
@@ -162,10 +165,12 @@ impl Table {
                 .place()
                 .at(field, what, "is this a table of mlgd decode?")
         };
-        let whole = |name: &str| -> Result<usize, Fault> {
+        let whole = |name: &str, most: usize| -> Result<usize, Fault> {
             let written = text(name)?;
-            written.parse().map_err(|_| odd(name, written))
+            let number = written.parse().ok().filter(|&number| number <= most);
+            number.ok_or_else(|| odd(name, written))
         };
+        let count = |name: &str| whole(name, MOST_COUNTED);
         let written = text("outcome")?;
         let outcome = Outcome::read(written).ok_or_else(|| odd("outcome", written))?;
         let within_half = match (text("within_half")?, outcome) {
@@ -177,16 +182,16 @@ impl Table {
         let counts = match outcome {
             Outcome::Refused => None,
             _ => Some(Counts {
-                rounds: whole("rounds")?,
-                failing: whole("failing")?,
-                changed: whole("changed")?,
-                wrong_bits: whole("wrong_bits")?,
+                rounds: count("rounds")?,
+                failing: count("failing")?,
+                changed: count("changed")?,
+                wrong_bits: count("wrong_bits")?,
                 word: word.ok_or_else(|| odd("word", text("word").unwrap_or_default()))?,
             }),
         };
         Ok(Some(Row {
-            line: whole("line")?,
-            block: whole("block")?,
+            line: whole("line", usize::MAX)?,
+            block: whole("block", usize::MAX)?,
             outcome,
             counts,
             within_half,

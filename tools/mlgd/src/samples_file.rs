@@ -265,11 +265,12 @@ impl SamplesFile {
             return place.fault(what, remedy);
         }
         let extra = self.form.skip + count - n;
+        let labels = match extra < n {
+            true => format!(" If the first fields are labels, give --skip-columns {extra}"),
+            false => String::new(),
+        };
         let what = format!("this line has {count} samples, and a block has {n}");
-        let remedy = format!(
-            "is this the right matrix? If the first fields are labels, \
-             give --skip-columns {extra}{decimal}"
-        );
+        let remedy = format!("is this the right matrix?{labels}{decimal}");
         place.fault(what, remedy)
     }
 

@@ -17,7 +17,7 @@ use crate::arguments::{asks_help, Arguments, Known};
 use crate::decode::{accepted, once_standard_input};
 use crate::fault::Fault;
 use crate::matrix_file::{Matrix, MatrixFile};
-use crate::output::{print, refuse_same, Output};
+use crate::output::{keep_apart, print, tell, Output};
 use crate::program::{refuse_odd_word, BlockLine, Program};
 use crate::samples_file::csv_line;
 use crate::setting::Setting;
@@ -91,18 +91,15 @@ pub fn run(words: &[String]) -> Result<Status, Fault> {
 
 /// Refuses an output that would replace an input, or the other output.
 fn outputs_apart(arguments: &Arguments) -> Result<(), Fault> {
-    let inputs = INPUTS.map(|name| arguments.value(name).unwrap_or_default());
-    for out in ["--out", "--svg", "--samples"] {
-        refuse_same(arguments.value(out), &inputs)?;
-    }
-    if arguments.value("--samples").is_some() {
+    let inputs = INPUTS.map(|name| arguments.value(name));
+    let samples = arguments.value("--samples");
+    if samples.is_some() {
         let others = ["--out", "--svg", "--jobs", "--program"];
-        return arguments.refuse_beside(&others, "--samples");
+        arguments.refuse_beside(&others, "--samples")?;
+        return keep_apart(&[samples], &inputs);
     }
-    if arguments.value("--svg") == arguments.value("--out").or(Some("-")) {
-        return Err(arguments.misused("--svg and --out go to the same place"));
-    }
-    Ok(())
+    let table = arguments.value("--out").or(Some("-"));
+    keep_apart(&[table, arguments.value("--svg")], &inputs)
 }
 
 /// Which blocks are sent.
@@ -247,7 +244,7 @@ fn rates(channel: &Channel, decoder: &Decoder, wanted: &Wanted) -> Result<Vec<Po
     let rate = |&db: &Decibels| {
         let tally = tally(channel, decoder, db, wanted)?;
         let point = Point::new(db, channel.deviation(db), channel.code.n, tally);
-        eprintln!("{}", progress(&point));
+        tell(progress(&point));
         Ok(point)
     };
     wanted.points.iter().map(rate).collect()

@@ -4,7 +4,7 @@ use crate::arguments::{asks_help, Arguments, Known};
 use crate::fault::Fault;
 use crate::lines::shown;
 use crate::matrix_file::Matrix;
-use crate::output::{print, refuse_same, whole, Output};
+use crate::output::{keep_apart, print, tell, whole, Output};
 use crate::samples_file::csv_line;
 use crate::setting::Setting;
 use crate::status::Status;
@@ -38,9 +38,12 @@ pub fn run(words: &[String]) -> Result<Status, Fault> {
     let Some(name) = arguments.files.first() else {
         return Err(arguments.misused("the input's name is missing"));
     };
-    for out in KNOWN.values {
-        refuse_same(arguments.value(out), &[name])?;
-    }
+    let outputs: Vec<Option<&str>> = KNOWN
+        .values
+        .iter()
+        .map(|out| arguments.value(out))
+        .collect();
+    keep_apart(&outputs, &[Some(name)])?;
     let mut input = Input::open(name)?;
     let (matrix, setting) = input.head()?;
     if let Some(out) = arguments.value("--matrix") {
@@ -54,7 +57,9 @@ pub fn run(words: &[String]) -> Result<Status, Fault> {
     let Matrix {
         n, m, rho, gamma, ..
     } = matrix;
-    eprintln!("n {n}, m {m}, rho {rho}, gamma {gamma}, blocks {blocks}");
+    tell(format!(
+        "n {n}, m {m}, rho {rho}, gamma {gamma}, blocks {blocks}"
+    ));
     Ok(Status::Done)
 }
 

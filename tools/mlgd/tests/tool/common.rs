@@ -54,6 +54,13 @@ impl Folder {
         self.0.join(name).exists()
     }
 
+    /// How many files are there that are not whole.
+    pub fn parts(&self) -> usize {
+        let names = fs::read_dir(&self.0).unwrap().map(|entry| entry.unwrap());
+        let part = |entry: &fs::DirEntry| entry.file_name().to_string_lossy().ends_with(".part");
+        names.filter(part).count()
+    }
+
     /// Runs the tool in the folder.
     pub fn run(&self, arguments: &[&str]) -> Ran {
         ran(&self.0, arguments)

@@ -207,7 +207,7 @@ fn command_lines_that_cannot_be_followed() {
         ),
         (
             &["matrix", "nothing"],
-            "nothing: No such file or directory (os error 2), is the name right?\n",
+            "nothing: No such file or directory, is the name right?\n",
         ),
         (
             &["matrix", "h", "--to", "x"],
@@ -243,10 +243,10 @@ fn names_of_outputs() {
     folder.write("r", "an old table\n");
     assert_eq!(folder.decode(&program, SETTING, &[]).status, 2);
     assert_eq!(folder.read("r"), "an old table\n");
-    assert!(!folder.has("r.part"), "and nothing else is left");
+    assert_eq!(folder.parts(), 0, "and nothing else is left");
     folder.write("y", GOOD);
     assert_eq!(folder.decode(&program, SETTING, &[]).status, 0);
-    assert!(!folder.has("r.part"));
+    assert_eq!(folder.parts(), 0);
     let ran = folder.run(&[&words[..], &["--program", &program]].concat());
     assert_eq!(
         ran.text(),

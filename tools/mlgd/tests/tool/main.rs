@@ -3,6 +3,7 @@
 mod chance;
 mod common;
 mod ends;
+mod hostile;
 mod memory;
 mod messages;
 mod pictures;

@@ -30,7 +30,7 @@ fn a_table_becomes_the_stored_map() {
     assert_eq!((to_file.status, to_file.said.as_str()), (0, ""));
     let stored = fs::read_to_string(root().join(MAP)).unwrap();
     assert_eq!(folder.read("map.svg"), stored);
-    assert!(!folder.has("map.svg.part"));
+    assert_eq!(folder.parts(), 0);
     let printed = ran(&root(), &["map", TABLE, "--columns", "5"]);
     assert_eq!(printed.text(), stored);
 }
@@ -171,7 +171,7 @@ fn what_a_simulation_says_when_it_cannot() {
         (
             "h",
             "--db 3 --blocks 1 --seed 1 --svg -",
-            &format!("{usage}--svg and --out go to the same place"),
+            "standard output: two outputs would go there, give it another name",
         ),
         (
             "h",
