@@ -28,7 +28,7 @@ line, block, outcome, rounds, failing, changed, wrong_bits, within_half, reason,
                   with them
 --samples X       numbers, n to a block: CSV with , or ; or tabs, or blanks; - is standard input.
                   nan and inf are read and the block is refused; # begins a comment
---out R           the table; standard output without it
+--out R           the table, which gets its name when it is whole; standard output without it
 --header          the first line of X is a heading
 --skip-columns K  the first K fields of each line are labels
 --decimal-comma   numbers are written 0,5

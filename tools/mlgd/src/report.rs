@@ -63,8 +63,8 @@ impl Promise {
         let are = if self.t == 1 { "is" } else { "are" };
         format!(
             "changed {bits}, more than the {} that {are} proved to be undone: \
-             the word is a codeword but nothing proves it to be the one sent: \
-             compare it with another reception or send the block again",
+             nothing proves this codeword to be the one sent, compare it with another reception \
+             or send the block again",
             self.t
         )
     }
@@ -274,7 +274,7 @@ mod tests {
     /// The same words whatever the limit, and no claim of how many bits were wrong.
     #[test]
     fn decoded_beyond_the_half() {
-        let ending = "the word is a codeword but nothing proves it to be the one sent: \
+        let ending = "nothing proves this codeword to be the one sent, \
                       compare it with another reception or send the block again";
         for limit in [0, 30, 63, 64, 255] {
             for weak in [false, true] {

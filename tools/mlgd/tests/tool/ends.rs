@@ -282,8 +282,8 @@ fn one_step() {
             "1,0,decoded,0,0,0,0,yes,,x2e",
             "2,1,decoded,1,0,1,1,yes,,x2e",
             "3,2,decoded,1,0,6,6,no,\"changed 6 bits, more than the 1 that is proved to be undone: \
-             the word is a codeword but nothing proves it to be the one sent: compare it with \
-             another reception or send the block again\",x2e",
+             nothing proves this codeword to be the one sent, compare it with another reception \
+             or send the block again\",x2e",
             "4,3,refused,,,,,no,the last place of the last byte is not 0: write the word's spare bits as 0,",
         ]
     );
