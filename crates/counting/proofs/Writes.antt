@@ -14,14 +14,13 @@
 --   over-long                      == a buffer that has been written stays as long as it was
 --   over-step                      == a store of the next value writes one place more
 --   over-at, over-rest             == the values written are f's, and the other places stay
---   over-is                        == a list with these values and the old ones past them is the buffer overwritten
 --   over-over                      == of two writings of one length the later stands
 -- Assumes nothing.
 use mathlib.Core.Path.{_≡_, refl, sym, ap, _∙_}
 use mathlib.Core.List.{List, [], _∷_, _++_}
 use mathlib.Core.Logic.{_⊎_, inl, inr, ⊎-elim}
 use Prim.Native.Nat.{ℕ, zero, suc, _+_, _-_, _≤_, _<_}
-use native.Mathlib.Nat.{le-of-suc-le-suc, not-suc-le-zero, eq-or-lt-of-le, eq-zero-or-pos}
+use native.Mathlib.Nat.{le-of-suc-le-suc, not-suc-le-zero, eq-or-lt-of-le}
 use native.Mathlib.Numerals.{add-one}
 use native.Mathlib.Decide.{ℕ-discrete}
 use native.Mathlib.Omega.{arith}
@@ -136,16 +135,6 @@ module _ {A : Type 0} (k : ℕ) (f : ℕ → A) (old new : List A) (e : new ≡ 
 
   pub over-rest : (d : A) (i : ℕ) → k ≤ i → getD new i d ≡ getD old i d
   over-rest d i h = ap (λ (x : List A). getD x i d) e ∙ getD-over-old (listed k f) old i d (omega (arith, length-listed k f))
-
--- a list with these values and the old ones past them is the buffer overwritten
-pub over-is : {A : Type 0} (d : A) (k : ℕ) (f : ℕ → A) (old new : List A) → k ≤ length old → length new ≡ length old
-    → ((i : ℕ) → i < k → getD new i d ≡ f i) → ((i : ℕ) → k ≤ i → getD new i d ≡ getD old i d) → new ≡ over (listed k f) old
-over-is d k f old new h l front rest =
-    ext-getD d new (over (listed k f) old) (l ∙ sym (over-long k f old (over (listed k f) old) refl h))
-    (λ i _. elim (eq-zero-or-pos (k - i)) [
-      | inl past ↦ rest i (omega arith) ∙ sym (over-rest k f old (over (listed k f) old) refl d i (omega arith))
-      | inr b ↦ front i (omega arith) ∙ sym (over-at k f old (over (listed k f) old) refl d i (omega arith))
-    ])
 
 -- the later of two writings of one length
 pub over-over : {A : Type 0} (a b old : List A) → length a ≡ length b → over a (over b old) ≡ over a old
