@@ -67,6 +67,6 @@ audit: tools
 	cd target/audit && rt must-fail && python3 ../../tools/audit.py
 
 tools:
-	@command -v python3 >/dev/null || { echo "python3 is missing: two checks of the documents need it" >&2; exit 1; }
+	@command -v python3 >/dev/null || { echo "python3 is missing: the checks of the documents and of the edits need it" >&2; exit 1; }
 	@command -v rt >/dev/null || { echo "the Rattle toolchain is missing: 'rt' is not on the PATH" >&2; exit 1; }
 	@command -v cargo >/dev/null || { echo "cargo is missing: install Rust to build the tests" >&2; exit 1; }
