@@ -1,17 +1,18 @@
--- `matrix_index::place_row`. The loop's invariant: the first k entries of the row stand at their columns.
+-- `matrix_index::place_row`. The loop's invariant: the first k entries of the row stand at their columns, and nothing else is written.
 use Prim.Native.Nat.{_-_, _≤_}
 use mathlib.Core.Path.{sym, _∙_}
 use native.Mathlib.Nat.{le-antisymm}
 use native.Mathlib.Omega.{arith}
 use Rattle.matrix.specs.Paper.Code.{Matrix}
 use Rattle.matrix.specs.Paper.Shapes.{matrixOf}
-use Rattle.matrix_index.specs.Index.{IndexFilled}
-use Rattle.matrix_index.proofs.Entries.{Spot, spot-of, filled-next, filled-row}
+use Rattle.matrix_index.specs.Index.{IndexFilled, UnfilledKept}
+use Rattle.matrix_index.proofs.Entries.{Spot, spot-of, filled-next, filled-row, kept-none, kept-next}
 use Rattle.matrix_index.proofs.place_row.Statement.{statement}
 use Rattle.matrix_index.proofs.place_row.Tie as tie
 
 abbrev Inv-loop : tie.InvT-loop
-Inv-loop shape list i counts₀ index₀ rho k₀ counts index k = (k ≤ rho) × IndexFilled (matrixOf shape list) i k counts index
+Inv-loop shape list i counts₀ index₀ rho k₀ counts index k =
+    (k ≤ rho) × IndexFilled (matrixOf shape list) i k counts index × UnfilledKept (matrixOf shape list) counts index₀ index
 
 abbrev μ-loop : tie.MeasureT-loop
 μ-loop shape list i counts₀ index₀ rho k₀ counts index k = rho - k
@@ -32,7 +33,9 @@ cast-rho : tie.Need-cast-rho Inv-loop μ-loop
 cast-rho c = omega (arith, c .before .pre .0 .sizes .rho-most)
 
 loop-holds : tie.Need-loop-holds Inv-loop μ-loop
-loop-holds c = (omega arith, c .before .pre .2)
+loop-holds c =
+    let s = c .before in
+    (omega arith, s .pre .2, kept-none (lent s) (s .pre .0) (s .args .counts .now) (s .args .index .now))
 
 cast-gamma : tie.Need-cast-gamma Inv-loop μ-loop
 cast-gamma c = omega (arith, c .before .before .before .before .pre .0 .sizes .gamma-most)
@@ -99,8 +102,11 @@ loop-less c = omega arith
 loop-again : tie.Need-loop-again Inv-loop μ-loop
 loop-again c =
     let s = c .before .before .before .before .before .before in
-    let l = c .before .before .before .before .loop in
-    (omega arith, filled-next (lent s) (s .pre .0) (s .args .i) (l .k) (l .counts) (l .index) (s .pre .1) (omega arith) (l .inv .1))
+    let l = c .before .before .before .before .loop in (
+      omega arith,
+      filled-next (lent s) (s .pre .0) (s .args .i) (l .k) (l .counts) (l .index) (s .pre .1) (omega arith) (l .inv .1),
+      kept-next (lent s) (s .pre .0) (s .args .i) (l .k) (l .counts) (l .index) (s .pre .1) (omega arith) (l .inv .1) (s .args .index .now) (l .inv .2),
+    )
 
 same-length : tie.Need-same-length Inv-loop μ-loop
 same-length c = c .before .loop .inv .1 .long-counts ∙ sym (c .before .before .before .pre .2 .long-counts)
@@ -111,7 +117,8 @@ same-length-2 c = c .before .loop .inv .1 .long ∙ sym (c .before .before .befo
 returns : tie.Need-returns Inv-loop μ-loop
 returns c =
     let s = c .before .before .before in
-    filled-row (lent s) (s .pre .0) _ _ _ (rw (le-antisymm (c .before .loop .inv .0) (omega arith)) at (c .before .loop .inv .1))
+    let l = c .before .loop in
+    record { filled = filled-row (lent s) (s .pre .0) _ _ _ (s .pre .1) (rw (le-antisymm (l .inv .0) (omega arith)) at (l .inv .1)); kept = l .inv .2 }
 
 pub place-row-spec : {M : Type 1} → statement M
 place-row-spec =
