@@ -154,49 +154,71 @@ impl Table {
 
     /// The next line as a row.
     pub fn next_row(&mut self) -> Result<Option<Row>, Fault> {
-        let Some(fields) = self.next_fields()? else {
-            return Ok(None);
-        };
-        let text = |name: &str| Ok(fields[self.column(name)?].as_str());
-        let odd = |name: &str, written: &str| {
-            let field = self.column(name).map_or(1, |at| at + 1);
-            let what = format!("{name}: `{}` does not belong there", short(written));
-            self.lines
-                .place()
-                .at(field, what, "is this a table of mlgd decode?")
-        };
-        let whole = |name: &str, most: usize| -> Result<usize, Fault> {
-            let written = text(name)?;
-            let number = written.parse().ok().filter(|&number| number <= most);
-            number.ok_or_else(|| odd(name, written))
-        };
-        let count = |name: &str| whole(name, MOST_COUNTED);
-        let written = text("outcome")?;
-        let outcome = Outcome::read(written).ok_or_else(|| odd("outcome", written))?;
-        let within_half = match (text("within_half")?, outcome) {
+        let fields = self.next_fields()?;
+        let table = &*self;
+        let cells = fields.map(|fields| Cells { table, fields });
+        cells.map(|cells| cells.row()).transpose()
+    }
+}
+
+/// A line of the table, by the names of its columns.
+struct Cells<'a> {
+    table: &'a Table,
+    fields: Vec<String>,
+}
+
+impl Cells<'_> {
+    fn text(&self, name: &str) -> Result<&str, Fault> {
+        Ok(&self.fields[self.table.column(name)?])
+    }
+
+    /// What to say of a text that no run has written there.
+    fn odd(&self, name: &str) -> Fault {
+        let field = self.table.column(name).map_or(1, |at| at + 1);
+        let written = short(self.text(name).unwrap_or_default());
+        let what = format!("{name}: `{written}` does not belong there");
+        let place = self.table.lines.place();
+        place.at(field, what, "is this a table of mlgd decode?")
+    }
+
+    fn whole(&self, name: &str, most: usize) -> Result<usize, Fault> {
+        let number = self.text(name)?.parse().ok();
+        let number = number.filter(|&number| number <= most);
+        number.ok_or_else(|| self.odd(name))
+    }
+
+    fn counts(&self) -> Result<Counts, Fault> {
+        let count = |name: &str| self.whole(name, MOST_COUNTED);
+        let word = self.text("word")?.strip_prefix('x').and_then(bytes);
+        Ok(Counts {
+            rounds: count("rounds")?,
+            failing: count("failing")?,
+            changed: count("changed")?,
+            wrong_bits: count("wrong_bits")?,
+            word: word.ok_or_else(|| self.odd("word"))?,
+        })
+    }
+
+    fn row(&self) -> Result<Row, Fault> {
+        let outcome = Outcome::read(self.text("outcome")?);
+        let outcome = outcome.ok_or_else(|| self.odd("outcome"))?;
+        let within_half = match (self.text("within_half")?, outcome) {
             ("yes", Outcome::Decoded) => true,
             ("no", _) | ("", Outcome::Refused) => false,
-            (written, _) => return Err(odd("within_half", written)),
+            _ => return Err(self.odd("within_half")),
         };
-        let word = text("word")?.strip_prefix('x').and_then(bytes);
         let counts = match outcome {
             Outcome::Refused => None,
-            _ => Some(Counts {
-                rounds: count("rounds")?,
-                failing: count("failing")?,
-                changed: count("changed")?,
-                wrong_bits: count("wrong_bits")?,
-                word: word.ok_or_else(|| odd("word", text("word").unwrap_or_default()))?,
-            }),
+            _ => Some(self.counts()?),
         };
-        Ok(Some(Row {
-            line: whole("line", usize::MAX)?,
-            block: whole("block", usize::MAX)?,
+        Ok(Row {
+            line: self.whole("line", usize::MAX)?,
+            block: self.whole("block", usize::MAX)?,
             outcome,
             counts,
             within_half,
-            reason: text("reason")?.into(),
-        }))
+            reason: self.text("reason")?.into(),
+        })
     }
 }
 

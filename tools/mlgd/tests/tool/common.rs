@@ -66,6 +66,25 @@ impl Folder {
         ran(&self.0, arguments)
     }
 
+    /// The same with the words of a line.
+    pub fn run_line(&self, line: &str) -> Ran {
+        self.run(&line.split(' ').collect::<Vec<_>>())
+    }
+
+    /// The same with one of the streams on a full disk: the status, and what is said elsewhere.
+    pub fn run_full(&self, line: &str, full_error: bool) -> (Option<i32>, String) {
+        let full = fs::File::options().write(true).open("/dev/full").unwrap();
+        let mut command = Command::new(TOOL);
+        command.args(line.split(' ')).current_dir(&self.0);
+        match full_error {
+            true => command.stderr(full),
+            false => command.stdout(full),
+        };
+        let output = command.output().unwrap();
+        let said = String::from_utf8(output.stderr).unwrap();
+        (output.status.code(), said)
+    }
+
     /// Runs `mlgd decode` by the proved program on matrix `h` and samples `y`, into `r`.
     pub fn decode(&self, program: &str, setting: &str, more: &[&str]) -> Ran {
         let mut arguments = vec!["decode", "--matrix", "h", "--setting", setting];

@@ -2,7 +2,6 @@
 
 use crate::common::{program, Folder, SETTING};
 use generator::{alist, codes};
-use std::fs;
 
 const GOOD: &str = "0.5,-1,-1,-1,-1,-1,-1\n";
 
@@ -55,9 +54,9 @@ fn beyond_the_half() {
         assert!(row.ends_with(",x00"), "{row}");
     }
     folder.write("words", "xc0\n");
-    let words = ["decode", "--one-step", "--matrix", "h", "--words", "words"];
-    for (strict, status) in [(&[][..], 0), (&["--strict"], 1)] {
-        let ran = folder.run(&[&words, strict].concat());
+    for (strict, status) in [("", 0), (" --strict", 1)] {
+        let line = "decode --one-step --matrix h --words words";
+        let ran = folder.run_line(&format!("{line}{strict}"));
         assert_eq!(ran.status, status, "{ran:?}");
         assert!(ran.said.starts_with(said), "{}", ran.said);
     }
@@ -72,37 +71,18 @@ fn beyond_the_half() {
 fn a_full_disk() {
     let Some(program) = program() else { return };
     let folder = folder("full", GOOD);
-    let files = [
-        "--matrix",
-        "h",
-        "--setting",
-        SETTING,
-        "--samples",
-        "y",
-        "--out",
-        "/dev/full",
-    ];
-    let decode = [&["decode", "--program", &program], &files[..]].concat();
-    let pack = [&["pack"], &files[..]].concat();
-    let one_step = [
-        "decode",
-        "--one-step",
-        "--matrix",
-        "h",
-        "--samples",
-        "y",
-        "--out",
-        "/dev/full",
-    ];
-    let matrix = ["matrix", "h", "--to", "alist", "--out", "/dev/full"];
-    for words in [&decode[..], &pack, &one_step, &matrix] {
-        let ran = folder.run(words);
-        assert_eq!(ran.status, 2, "{words:?}: {ran:?}");
-        assert!(
-            ran.said.starts_with("/dev/full: No space left on device"),
-            "{}",
-            ran.said
-        );
+    folder.write("s", SETTING);
+    let files = "--matrix h --setting s --samples y --out /dev/full";
+    for line in [
+        &format!("decode --program {program} {files}"),
+        &format!("pack {files}"),
+        "decode --one-step --matrix h --samples y --out /dev/full",
+        "matrix h --to alist --out /dev/full",
+    ] {
+        let ran = folder.run_line(line);
+        assert_eq!(ran.status, 2, "{line}: {ran:?}");
+        let expected = "/dev/full: No space left on device";
+        assert!(ran.said.starts_with(expected), "{}", ran.said);
     }
 }
 
@@ -110,20 +90,11 @@ fn a_full_disk() {
 #[test]
 fn a_full_disk_behind_standard_output() {
     let folder = folder("full-output", GOOD);
-    for words in ["--help", "--version", "matrix h"] {
-        let full = fs::File::options().write(true).open("/dev/full").unwrap();
-        let mut command = std::process::Command::new(crate::common::TOOL);
-        command
-            .args(words.split(' '))
-            .current_dir(&folder.0)
-            .stdout(full);
-        let output = command.output().unwrap();
-        let said = String::from_utf8(output.stderr).unwrap();
-        assert_eq!(output.status.code(), Some(2), "{words}");
-        assert!(
-            said.starts_with("standard output: No space left on device"),
-            "{said}"
-        );
+    for line in ["--help", "--version", "matrix h"] {
+        let (status, said) = folder.run_full(line, false);
+        assert_eq!(status, Some(2), "{line}");
+        let expected = "standard output: No space left on device";
+        assert!(said.starts_with(expected), "{said}");
     }
 }
 
@@ -224,16 +195,9 @@ fn command_lines_that_cannot_be_followed() {
 fn names_of_outputs() {
     let Some(program) = program() else { return };
     let folder = folder("names", GOOD);
-    let words = [
-        "decode",
-        "--matrix",
-        "h",
-        "--setting",
-        SETTING,
-        "--samples",
-        "y",
-    ];
-    let ran = folder.run(&[&words[..], &["--program", &program, "--out", "./y"]].concat());
+    folder.write("s", SETTING);
+    let line = format!("decode --matrix h --setting s --samples y --program {program}");
+    let ran = folder.run_line(&format!("{line} --out ./y"));
     assert_eq!(
         ran.said,
         "./y: the output would replace an input, give it another name\n"
@@ -247,7 +211,7 @@ fn names_of_outputs() {
     folder.write("y", GOOD);
     assert_eq!(folder.decode(&program, SETTING, &[]).status, 0);
     assert_eq!(folder.parts(), 0);
-    let ran = folder.run(&[&words[..], &["--program", &program]].concat());
+    let ran = folder.run_line(&line);
     assert_eq!(
         ran.text(),
         folder.read("r"),
@@ -300,17 +264,8 @@ fn one_step_on_samples() {
     let folder = Folder::new("one-step-samples");
     folder.write("a", alist::text(&codes::code_a()));
     folder.write("y", "1,-1,0.2,-1,1,3,1\nnan,1,1,1,1,1,1\n");
-    let words = [
-        "decode",
-        "--one-step",
-        "--matrix",
-        "a",
-        "--samples",
-        "y",
-        "--out",
-        "r",
-    ];
-    let ran = folder.run(&words);
+    let line = "decode --one-step --matrix a --samples y --out r";
+    let ran = folder.run_line(line);
     assert_eq!(ran.status, 1);
     assert!(
         ran.said.contains("one-step voting carries the promise"),
@@ -324,6 +279,5 @@ fn one_step_on_samples() {
         rows[1],
         "2,1,refused,,,,,no,sample 1 is no finite number: send the block again,"
     );
-    let ran = folder.run(&[&words[..], &["--setting", "s"]].concat());
-    assert_eq!(ran.status, 2);
+    assert_eq!(folder.run_line(&format!("{line} --setting s")).status, 2);
 }

@@ -4,7 +4,7 @@
 use crate::common::{program, Folder, SETTING, TOOL};
 use generator::{alist, codes};
 use std::ffi::OsStr;
-use std::fs::{self, File};
+use std::fs;
 use std::os::unix::ffi::OsStrExt;
 use std::os::unix::fs::symlink;
 use std::process::Command;
@@ -23,61 +23,61 @@ fn folder(name: &str) -> Folder {
 
 /// Runs the tool with the words of a line; it must end with a fault that begins so.
 fn refused(folder: &Folder, line: &str, begins: &str) {
-    let words: Vec<&str> = line.split(' ').collect();
-    let ran = folder.run(&words);
+    let ran = folder.run_line(line);
     assert_eq!(ran.status, 2, "{line}: {ran:?}");
     assert!(ran.said.starts_with(begins), "{line}: {}", ran.said);
     assert_eq!(ran.said.lines().count(), 1, "{line}: {}", ran.said);
     assert!(ran.said.contains(", "), "no remedy: {}", ran.said);
 }
 
+/// A matrix, and what is said of it.
+const SIZES: &[(&str, &str)] = &[
+    (
+        "4294967295 4294967295\n4294967295 4294967295\n",
+        ":1:1: the sizes n and m: 4294967295 is above 65535",
+    ),
+    (
+        "65535 65535\n65535 65535\n",
+        ":2: the file ends before the weights of the columns",
+    ),
+    (
+        "4294967295 7 3 3\n0 1 3\n",
+        ":1:1: n: 4294967295 is above 65535",
+    ),
+    (
+        "65535 65535 65535 65535\n",
+        ":1: the list ends after 0 rows, and m is 65535",
+    ),
+    (
+        "18446744073709551616 7\n3 3\n",
+        ":1:1: the sizes n and m: 18446744073709551616 is above",
+    ),
+    (
+        "4294967295 4294967296\n",
+        ":1:1: column: 4294967295 is above 65535",
+    ),
+    (
+        "0 65535\n1 2\n",
+        ": column 0 stands in 1 row and column 3 in 0",
+    ),
+    ("0 0\n0 0\n", ": rho is 0: the decoder takes 2 to 32"),
+    ("", ":1: a matrix is missing"),
+];
+
 #[test]
 fn sizes_that_no_matrix_has() {
     let folder = folder("sizes");
-    for (contents, what) in [
-        (
-            "4294967295 4294967295\n4294967295 4294967295\n",
-            ":1:1: the sizes n and m: 4294967295",
-        ),
-        (
-            "65535 65535\n65535 65535\n",
-            ":2: the file ends before the weights of the columns",
-        ),
-        (
-            "4294967295 7 3 3\n0 1 3\n",
-            ":1:1: n: 4294967295 is above 65535",
-        ),
-        (
-            "65535 65535 65535 65535\n",
-            ":1: the list ends after 0 rows, and m is 65535",
-        ),
-        (
-            "18446744073709551616 7\n3 3\n",
-            ":1:1: the sizes n and m: 18446744073709551616",
-        ),
-        (
-            "4294967295 4294967296\n",
-            ":1:1: column: 4294967295 is above 65535",
-        ),
-        (
-            "0 65535\n1 2\n",
-            ": column 0 stands in 1 row and column 3 in 0",
-        ),
-        ("0 0\n0 0\n", ": rho is 0: the decoder takes 2 to 32"),
-        ("", ":1: a matrix is missing"),
-    ] {
+    for (contents, what) in SIZES {
         folder.write("bad", contents);
         refused(&folder, "matrix bad", &format!("bad{what}"));
     }
     folder.write("bad", "1".repeat(70_000) + "\n");
-    refused(
-        &folder,
-        "matrix bad",
-        "bad:1: 70,000 columns and 1 row are too many",
-    );
+    let what = "bad:1: 70,000 columns and 1 row are too many";
+    refused(&folder, "matrix bad", what);
 }
 
-/// Empty files, folders, lines without end, and bytes that are no text, wherever a file is read.
+/// Empty files, folders, lines without end, and bytes that are no text, wherever `mlgd decode`
+/// reads a file.
 #[test]
 fn what_is_no_file_of_its_kind() {
     let Some(program) = program() else { return };
@@ -85,56 +85,51 @@ fn what_is_no_file_of_its_kind() {
     folder.write("empty", "");
     folder.write("long", "1".repeat(2 << 20));
     folder.write("bytes", b"1 2 \xff\n");
-    let decode = format!("decode --out r --program {program}");
-    for (file, whats) in [
-        (
-            "empty",
-            [
-                "there is no block in it",
-                "a matrix is missing",
-                "`level-step` or",
-            ],
-        ),
-        ("d", ["Is a directory"; 3]),
-        ("long", ["this line is longer than 1,048,576 bytes"; 3]),
-        ("bytes", ["byte 5 of this line is no UTF-8 text"; 3]),
-        ("none", ["No such file or directory"; 3]),
+    for (file, what) in [
+        ("d", ": Is a directory, give the name of a file"),
+        ("long", ":1: this line is longer than 1,048,576 bytes"),
+        ("bytes", ":1: byte 5 of this line is no UTF-8 text"),
+        ("none", ": No such file or directory, is the name right?"),
     ] {
-        let lines = [
-            format!("{decode} --matrix h --setting s --samples {file}"),
-            format!("{decode} --matrix {file} --setting s --samples y"),
-            format!("{decode} --matrix h --setting {file} --samples y"),
-        ];
-        for (line, what) in lines.iter().zip(whats) {
-            let place = if what.contains("this line") || what.starts_with(['a', '`']) {
-                format!("{file}:1")
-            } else {
-                file.into()
-            };
-            refused(&folder, line, &format!("{place}: {what}"));
+        for files in [["h", "s", file], [file, "s", "y"], ["h", file, "y"]] {
+            let [matrix, setting, samples] = files;
+            let files = format!("--matrix {matrix} --setting {setting} --samples {samples}");
+            let line = format!("decode {files} --out r --program {program}");
+            refused(&folder, &line, &format!("{file}{what}"));
         }
-        assert!(!folder.has("r"));
     }
-    refused(
-        &folder,
-        "decode --one-step --matrix h --words empty --out r",
-        "empty: there is no word",
-    );
-    refused(
-        &folder,
-        "pack --matrix h --setting s --samples empty --out r",
-        "empty: there is no block",
-    );
-    refused(
-        &folder,
-        "map d --out r",
-        "d: Is a directory, give the name of a file",
-    );
-    refused(
-        &folder,
-        "unpack d",
-        "d: Is a directory, give the name of a file",
-    );
+    assert!(!folder.has("r") && folder.parts() == 0);
+}
+
+/// The same where other subcommands read one, and what is said of an empty file.
+#[test]
+fn no_file_of_its_kind_elsewhere() {
+    let folder = folder("no-file-elsewhere");
+    folder.write("empty", "");
+    let files = "--matrix h --setting s --samples empty --out r";
+    for (line, what) in [
+        (&*format!("decode {files}"), "empty: there is no block in"),
+        (&format!("pack {files}"), "empty: there is no block in it"),
+        (
+            &format!("pack {files} --split 2"),
+            "empty: there is no block in it",
+        ),
+        (
+            "decode --one-step --matrix h --words empty --out r",
+            "empty: there is no word in it, is this the right file?",
+        ),
+        ("map empty --out r", "empty:1: there is no column `line`"),
+        ("unpack empty", "empty: byte 0: the input ends inside n"),
+        ("map d --out r", "d: Is a directory, give the name of a"),
+        ("unpack d", "d: Is a directory, give the name of a file"),
+    ] {
+        // Without a block the program is never run: any file stands for it.
+        let program = match line.starts_with("decode --matrix") {
+            true => format!(" --program {TOOL}"),
+            false => String::new(),
+        };
+        refused(&folder, &format!("{line}{program}"), what);
+    }
     assert!(!folder.has("r") && folder.parts() == 0);
 }
 
@@ -146,27 +141,27 @@ fn outputs_that_cannot_be() {
         ("d", "Is a directory, give the name of a file"),
         ("none/r", "No such file or directory, make its folder first"),
         ("y/r", "Not a directory, is the name right?"),
-        (
-            "/sys/r",
-            "Permission denied, give a folder that you may write to",
-        ),
+        ("/sys/r", "Permission denied, give a folder that you may"),
     ] {
         let line = format!("decode --one-step --matrix h --samples y --out {out}");
         refused(&folder, &line, &format!("{out}: {what}"));
     }
-    let ran = folder.run(&["matrix", "h", "--to", "list", "--out", ""]);
-    assert_eq!(
-        ran.said,
-        "mlgd matrix: what stands after --out is empty, see mlgd matrix --help\n"
-    );
-    let ran = folder.run(&["matrix", ""]);
-    assert_eq!(
-        ran.said,
-        "mlgd matrix: a file name is empty, see mlgd matrix --help\n"
-    );
+    for (line, what) in [
+        (
+            "matrix h --to list --out ",
+            "what stands after --out is empty",
+        ),
+        ("matrix ", "a file name is empty"),
+    ] {
+        let expected = format!("mlgd matrix: {what}, see mlgd matrix --help\n");
+        assert_eq!(folder.run_line(line).said, expected);
+    }
 }
 
-/// No name that an output has for a while or in the end is that of an input or another output.
+const LOST: &str = "the output would replace an input, give it another name";
+const TWICE: &str = "two outputs would go there, give it another name";
+
+/// No name that an output has for a while or in the end is that of an input.
 #[test]
 fn no_input_is_lost() {
     let Some(program) = program() else { return };
@@ -174,52 +169,24 @@ fn no_input_is_lost() {
     folder.write("r.part", GOOD);
     folder.write("x.0000", GOOD);
     symlink("y", folder.0.join("link")).unwrap();
-    let files = "--matrix h --setting s --samples";
-    let lost = "the output would replace an input, give it another name";
-    let twice = "two outputs would go there, give it another name";
-    for (line, name, what) in [
+    let decode = format!("decode --program {program} --matrix h --setting s");
+    let pack = "pack --matrix h --setting s";
+    for (line, name) in [
+        (format!("{decode} --samples y --out y"), "y"),
+        (format!("{decode} --samples y --out d/../y"), "d/../y"),
+        (format!("{decode} --samples y --out link"), "link"),
+        (format!("{decode} --samples link --out y"), "y"),
+        (format!("{decode} --samples y --out s"), "s"),
+        (format!("{pack} --samples y --out s"), "s"),
         (
-            format!("decode {files} y --program {program} --out d/../y"),
-            "d/../y",
-            lost,
-        ),
-        (
-            format!("decode {files} y --program {program} --out link"),
-            "link",
-            lost,
-        ),
-        (
-            format!("decode {files} link --program {program} --out y"),
-            "y",
-            lost,
-        ),
-        (
-            format!("decode {files} y --program {program} --out s"),
-            "s",
-            lost,
-        ),
-        (format!("pack {files} y --out s"), "s", lost),
-        (
-            format!("pack {files} x.0000 --out x --split 5"),
+            format!("{pack} --samples x.0000 --out x --split 5"),
             "x.0000",
-            lost,
-        ),
-        (
-            "simulate --matrix h --setting s --db 3 --blocks 1 --seed 1 --out q --svg ./q".into(),
-            "./q",
-            twice,
-        ),
-        (
-            "simulate --matrix h --setting s --db 3 --blocks 1 --seed 1 --samples s".into(),
-            "s",
-            lost,
         ),
     ] {
-        refused(&folder, &line, &format!("{name}: {what}"));
+        refused(&folder, &line, &format!("{name}: {LOST}"));
     }
     // While it is written, a table r has a name that no other file has.
-    let line = format!("decode {files} r.part --program {program} --out r");
-    let ran = folder.run(&line.split(' ').collect::<Vec<_>>());
+    let ran = folder.run_line(&format!("{decode} --samples r.part --out r"));
     assert_eq!(ran.status, 0, "{ran:?}");
     for name in ["y", "r.part", "x.0000", "link"] {
         assert_eq!(folder.read(name), GOOD, "{name}");
@@ -228,41 +195,25 @@ fn no_input_is_lost() {
     assert_eq!(folder.parts(), 1, "r.part alone");
 }
 
+/// Nor is one output lost to another, whatever the names.
 #[test]
-fn two_outputs_of_unpack() {
-    let folder = folder("unpack-twice");
-    let ran = folder.run(&[
-        "pack",
-        "--matrix",
-        "h",
-        "--setting",
-        "s",
-        "--samples",
-        "y",
-        "--out",
-        "i",
-    ]);
+fn no_output_is_lost() {
+    let folder = folder("twice");
+    let ran = folder.run_line("pack --matrix h --setting s --samples y --out i");
     assert_eq!(ran.status, 0, "{ran:?}");
-    let twice = "two outputs would go there";
-    refused(
-        &folder,
-        "unpack i --matrix u --samples ./u",
-        &format!("./u: {twice}"),
-    );
-    refused(
-        &folder,
-        "unpack i --matrix - --samples -",
-        &format!("standard output: {twice}"),
-    );
-    assert!(!folder.has("u"));
-    let ran = folder.run(&[
-        "unpack",
-        "i",
-        "--matrix",
-        "/dev/null",
-        "--samples",
-        "/dev/null",
-    ]);
+    let simulate = "simulate --matrix h --setting s --db 3 --blocks 1 --seed 1";
+    for (line, name, what) in [
+        (&*format!("{simulate} --out q --svg ./q"), "./q", TWICE),
+        (&format!("{simulate} --svg -"), "standard output", TWICE),
+        (&format!("{simulate} --samples s"), "s", LOST),
+        ("unpack i --matrix u --samples ./u", "./u", TWICE),
+        ("unpack i --matrix - --samples -", "standard output", TWICE),
+        ("unpack i --matrix i", "i", LOST),
+    ] {
+        refused(&folder, line, &format!("{name}: {what}"));
+    }
+    assert!(!folder.has("q") && !folder.has("u"));
+    let ran = folder.run_line("unpack i --matrix /dev/null --samples /dev/null");
     assert_eq!(ran.status, 0, "a device takes both: {ran:?}");
 }
 
@@ -272,21 +223,11 @@ fn an_output_behind_a_link() {
     let folder = folder("link");
     folder.write("d/table", "an old table\n");
     symlink("d/table", folder.0.join("r")).unwrap();
-    let ran = folder.run(&[
-        "decode",
-        "--one-step",
-        "--matrix",
-        "h",
-        "--samples",
-        "y",
-        "--out",
-        "r",
-    ]);
+    let ran = folder.run_line("decode --one-step --matrix h --samples y --out r");
     assert_eq!(ran.status, 0, "{ran:?}");
     assert!(folder.read("d/table").starts_with("line,block,"));
-    assert!(fs::symlink_metadata(folder.0.join("r"))
-        .unwrap()
-        .is_symlink());
+    let link = fs::symlink_metadata(folder.0.join("r")).unwrap();
+    assert!(link.is_symlink());
 }
 
 /// Samples from a FIFO, and a table into one: document 01's P6.
@@ -302,8 +243,8 @@ fn fifos() {
     let (samples, table) = (folder.0.join("in"), folder.0.join("out"));
     let feeder = std::thread::spawn(move || fs::write(samples, GOOD));
     let reader = std::thread::spawn(move || fs::read_to_string(table));
-    let line = format!("decode --matrix h --setting s --samples in --out out --program {program}");
-    let ran = folder.run(&line.split(' ').collect::<Vec<_>>());
+    let line = "decode --matrix h --setting s --samples in --out out --program";
+    let ran = folder.run_line(&format!("{line} {program}"));
     assert_eq!(ran.status, 0, "{ran:?}");
     feeder.join().unwrap().unwrap();
     let table = reader.join().unwrap().unwrap();
@@ -324,38 +265,26 @@ fn a_full_disk_behind_standard_error() {
         ("matrix none", 2),
         ("paint", 2),
     ] {
-        let full = File::options().write(true).open("/dev/full").unwrap();
-        let mut command = Command::new(TOOL);
-        command
-            .args(line.split(' '))
-            .current_dir(&folder.0)
-            .stderr(full);
-        assert_eq!(command.status().unwrap().code(), Some(status), "{line}");
+        assert_eq!(folder.run_full(line, true).0, Some(status), "{line}");
     }
-    assert!(folder.read("r").ends_with("1,0,decoded,1,0,1,1,yes,,x00\n"));
+    let table = folder.read("r");
+    assert!(table.ends_with("1,0,decoded,1,0,1,1,yes,,x00\n"), "{table}");
 }
 
 /// A name that is no UTF-8 is refused: with another in its place the wrong file would be used.
 #[test]
 fn names_that_are_no_text() {
     let folder = folder("names-no-text");
-    let name = OsStr::from_bytes(b"r\xe4.csv");
+    let line = "decode --one-step --matrix h --samples y --out";
     let mut command = Command::new(TOOL);
-    command.args([
-        "decode",
-        "--one-step",
-        "--matrix",
-        "h",
-        "--samples",
-        "y",
-        "--out",
-    ]);
-    let output = command.arg(name).current_dir(&folder.0).output().unwrap();
+    command.args(line.split(' ')).current_dir(&folder.0);
+    let output = command.arg(OsStr::from_bytes(b"r\xe4.csv")).output();
+    let output = output.unwrap();
     assert_eq!(output.status.code(), Some(2));
-    let said = String::from_utf8(output.stderr).unwrap();
-    let expected =
-        "mlgd: `r\u{fffd}.csv` is no UTF-8 text, rename the file, or write the word anew\n";
-    assert_eq!(said, expected);
+    assert_eq!(
+        String::from_utf8(output.stderr).unwrap(),
+        "mlgd: `r\u{fffd}.csv` is no UTF-8 text, rename the file, or write the word anew\n"
+    );
 }
 
 /// Tables with counts that no block has.
@@ -363,38 +292,29 @@ fn names_that_are_no_text() {
 fn tables_that_no_run_has_written() {
     let folder = folder("no-table");
     let heading = mlgd::results::COLUMNS;
-    for (row, what) in [
+    for (row, place) in [
         (
             "1,0,decoded,1,0,1,4294967295,yes,,x00",
-            ":2:7: wrong_bits: `4294967295` does not",
+            "2:7: wrong_bits: `4294967295`",
         ),
         (
             "1,0,decoded,1,0,1,1024,no,,x00",
-            ":2:7: wrong_bits: `1024` does not",
+            "2:7: wrong_bits: `1024` does not",
         ),
         (
             "1,0,failed,1,99999999999,1,1,no,,x00",
-            ":2:5: failing: `99999999999` does not",
+            "2:5: failing: `99999999999`",
         ),
-        ("1,-1,failed,1,1,1,1,no,,x00", ":2:2: block: `-1` does not"),
-        (
-            "1,0,decoded,1,0,1,1,yes,,x\u{e9}",
-            ":2:10: word: `x\u{e9}` does not",
-        ),
-        (
-            "1,0,\"decoded,1,0,1,1,yes,,x00",
-            ":2: a quotation mark is open",
-        ),
+        ("1,-1,failed,1,1,1,1,no,,x00", "2:2: block: `-1` does not"),
+        ("1,0,decoded,1,0,1,1,yes,,x\u{e9}", "2:10: word: `x\u{e9}`"),
+        ("1,0,\"decoded,1,0", "2: a quotation mark is open"),
     ] {
         folder.write("t", format!("{heading}\n{row}\n"));
-        refused(&folder, "map t --out m", &format!("t{what}"));
+        refused(&folder, "map t --out m", &format!("t:{place}"));
     }
-    folder.write(
-        "t",
-        format!("{heading}\n1,18446744073709551615,failed,255,1023,9,9,no,,x00\n"),
-    );
-    assert_eq!(folder.run(&["map", "t", "--out", "m"]).status, 0);
-    assert!(folder
-        .read("m")
-        .contains("block 18446744073709551615: failed, 1,023 checks fail"));
+    let row = "1,18446744073709551615,failed,255,1023,9,9,no,,x00";
+    folder.write("t", format!("{heading}\n{row}\n"));
+    assert_eq!(folder.run_line("map t --out m").status, 0);
+    let tooltip = "block 18446744073709551615: failed, 1,023 checks fail";
+    assert!(folder.read("m").contains(tooltip));
 }

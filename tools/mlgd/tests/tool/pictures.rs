@@ -134,66 +134,55 @@ fn samples_can_be_had() {
     assert!(decoded.said.starts_with("10 blocks: "), "{}", decoded.said);
 }
 
+/// A matrix, the points and blocks, and what is said.
+const NO_SIMULATION: &[(&str, &str, &str)] = &[
+    ("none", "--db 3 --blocks 1 --seed 1", "none: No such file"),
+    ("h", "--db 3 --blocks 1", "mlgd simulate: --seed is missing"),
+    ("h", "--db 3 --seed 1", "mlgd simulate: --blocks is missing"),
+    (
+        "h",
+        "--db 5:3:1 --blocks 1 --seed 1",
+        "mlgd simulate: --db 5:3:1 has no points, see mlgd simulate --help",
+    ),
+    (
+        "h",
+        "--db 3 --blocks 0 --seed 1",
+        "mlgd simulate: --blocks is 1 to 1000000000, and not `0`",
+    ),
+    (
+        "h",
+        "--db 3 --blocks 1 --seed 1 --samples y --jobs 2",
+        "mlgd simulate: --jobs does not go with --samples",
+    ),
+    (
+        "h",
+        "--db 3 --blocks 1 --seed 1 --svg h",
+        "h: the output would replace an input",
+    ),
+    (
+        "h",
+        "--db 3 --blocks 1 --seed 1 --program none",
+        "none: there is no such program, build it: make decode",
+    ),
+    (
+        "refused",
+        "--db 3 --blocks 1 --seed 1",
+        "refused:2: rows 0 and 1 (lines 2 and 3) share columns 0 and 1",
+    ),
+    (
+        "one-word",
+        "--db 3 --blocks 1 --seed 1",
+        "one-word:1:3: rho is 1: the decoder takes 2 to 32",
+    ),
+];
+
 #[test]
 fn what_a_simulation_says_when_it_cannot() {
     let Some(program) = program() else { return };
     let folder = folder("no-simulation");
     folder.write("refused", "2 2 2 2\n0 1\n0 1\n");
     folder.write("one-word", "2 2 1 1\n0\n1\n");
-    let usage = "mlgd simulate: ";
-    for (matrix, options, message) in [
-        ("none", "--db 3 --blocks 1 --seed 1", "none: No such file"),
-        (
-            "h",
-            "--db 3 --blocks 1",
-            &format!("{usage}--seed is missing"),
-        ),
-        (
-            "h",
-            "--db 3 --seed 1",
-            &format!("{usage}--blocks is missing"),
-        ),
-        (
-            "h",
-            "--db 5:3:1 --blocks 1 --seed 1",
-            &format!("{usage}--db 5:3:1 has no points, see mlgd simulate --help"),
-        ),
-        (
-            "h",
-            "--db 3 --blocks 0 --seed 1",
-            &format!("{usage}--blocks is 1 to 1000000000, and not `0`"),
-        ),
-        (
-            "h",
-            "--db 3 --blocks 1 --seed 1 --samples y --jobs 2",
-            &format!("{usage}--jobs does not go with --samples"),
-        ),
-        (
-            "h",
-            "--db 3 --blocks 1 --seed 1 --svg -",
-            "standard output: two outputs would go there, give it another name",
-        ),
-        (
-            "h",
-            "--db 3 --blocks 1 --seed 1 --svg h",
-            "h: the output would replace an input",
-        ),
-        (
-            "h",
-            "--db 3 --blocks 1 --seed 1 --program none",
-            "none: there is no such program, build it: make decode",
-        ),
-        (
-            "refused",
-            "--db 3 --blocks 1 --seed 1",
-            "refused:2: rows 0 and 1 (lines 2 and 3) share columns 0 and 1",
-        ),
-        (
-            "one-word",
-            "--db 3 --blocks 1 --seed 1",
-            "one-word:1:3: rho is 1: the decoder takes 2 to 32",
-        ),
-    ] {
+    for (matrix, options, message) in NO_SIMULATION {
         let ran = simulate(&folder, matrix, options);
         assert_eq!(ran.status, 2, "{matrix} {options}: {}", ran.said);
         assert!(ran.said.starts_with(message), "{}", ran.said);
