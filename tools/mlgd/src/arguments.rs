@@ -22,7 +22,7 @@ pub struct Arguments {
     command: &'static str,
     values: Vec<(&'static str, String)>,
     flags: Vec<&'static str>,
-    pub files: Vec<String>,
+    files: Vec<String>,
 }
 
 /// Whether help is asked for.
@@ -115,6 +115,12 @@ impl Arguments {
             .ok_or_else(|| self.misused(format!("{name} is missing")))
     }
 
+    /// The first file name, which must be there.
+    pub fn needed_file(&self, what: &str) -> Result<&str, Fault> {
+        let file = self.files.first().map(String::as_str);
+        file.ok_or_else(|| self.misused(format!("{what} is missing")))
+    }
+
     /// A whole number within a range, which must be there.
     pub fn needed_number(&self, name: &str, range: RangeInclusive<usize>) -> Result<usize, Fault> {
         self.needed(name)?;
@@ -163,7 +169,7 @@ mod tests {
         let arguments = read("--header --matrix=h.alist - --jobs 3").unwrap();
         assert!(arguments.flag("--header"));
         assert_eq!(arguments.needed("--matrix").unwrap(), "h.alist");
-        assert_eq!(arguments.files, ["-"]);
+        assert_eq!(arguments.needed_file("the table").unwrap(), "-");
         assert_eq!(arguments.number("--jobs", 1..=8, 1).unwrap(), 3);
         assert_eq!(read("").unwrap().number("--jobs", 1..=8, 1).unwrap(), 1);
     }
@@ -188,6 +194,8 @@ mod tests {
         let fault = arguments.number("--jobs", 1..=8, 1).unwrap_err();
         assert!(fault.to_string().contains("--jobs is 1 to 8, and not `9`"));
         assert!(arguments.needed("--matrix").is_err());
+        let fault = arguments.needed_file("the table").unwrap_err();
+        assert!(fault.to_string().contains("the table is missing"));
         assert!(arguments.needed_number("--jobs", 1..=8).is_err());
         assert_eq!(arguments.needed_number("--jobs", 1..=9).unwrap(), 9);
         assert!(read("").unwrap().needed_number("--jobs", 1..=9).is_err());

@@ -59,9 +59,7 @@ pub fn run(words: &[String]) -> Result<Status, Fault> {
         return print(USAGE).map(|()| Status::Done);
     }
     let arguments = Arguments::read(words, &KNOWN)?;
-    let Some(file) = arguments.files.first() else {
-        return Err(arguments.misused("the results table's name is missing"));
-    };
+    let file = arguments.needed_file("the results table's name")?;
     let columns = Some(arguments.number("--columns", 1..=1_000, 0)?).filter(|&n| n > 0);
     let out = arguments.value("--out");
     keep_apart(&[out], &[Some(file)])?;

@@ -37,9 +37,7 @@ pub fn run(words: &[String]) -> Result<Status, Fault> {
         return print(USAGE).map(|()| Status::Done);
     }
     let arguments = Arguments::read(words, &KNOWN)?;
-    let Some(name) = arguments.files.first() else {
-        return Err(arguments.misused("the matrix's file is missing"));
-    };
+    let name = arguments.needed_file("the matrix's file")?;
     let file = MatrixFile::open(name, arguments.flag("--from-one"))?;
     checked::matrix(&file)?;
     let verdict = format!(

@@ -35,9 +35,7 @@ pub fn run(words: &[String]) -> Result<Status, Fault> {
         return print(USAGE).map(|()| Status::Done);
     }
     let arguments = Arguments::read(words, &KNOWN)?;
-    let Some(name) = arguments.files.first() else {
-        return Err(arguments.misused("the input's name is missing"));
-    };
+    let name = arguments.needed_file("the input's name")?;
     let outputs: Vec<Option<&str>> = KNOWN
         .values
         .iter()
