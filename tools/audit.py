@@ -12,7 +12,7 @@ edit's log is of one of the kinds below, and a kind is
 
 Run it after `rt must-fail` or `rt ci`, where crates/ and target/ lie: it lists the edits that show nothing, and those whose
 complaint is a reader's and whose header says nothing. `make audit` does so for all of them.
-With --headers no log is read: each edit must apply, as each `old:` stands in its file exactly once.
+With --headers no log is read: each edit must apply, as each `old:` stands in its file exactly once, and say which fact fails.
 With --kinds the kind and the first complaint of each edit are listed.
 """
 import pathlib
@@ -38,9 +38,10 @@ KINDS = [
     ("reader", "what a rewriting asks is not known", r"no proof of it was found among"),
     ("reader", "what is to be rewritten does not occur", r"no occurrence of"),
     ("reader", "a search finds no proof", r"`search`|`simp`|`rw`"),
+    ("reader", "the proof that the checker makes by itself does not go through", r"it is not proved that"),
     ("reader", "another statement than the one to prove", r"the two (types|sides)|but this has type|does not hold"),
 ]
-PLACE = re.compile(r"^(\S+:\d+:\d+: error|error\b|note: \S+:\d+:\d+:)")
+PLACE = re.compile(r"^(\S+:\d+:\d+: error|error\b|note: \S+:\d+:\d+: it is not proved)")
 VERDICT = re.compile(r"^# fails: \S")
 
 
@@ -100,10 +101,10 @@ def misfits(edit):
 
 
 def headers():
-    bad = [(e, m) for e in edits() for m in [misfits(e)] if m]
+    bad = [(e, m) for e in edits() for m in [misfits(e) or (not verdict(e) and "it has no line `# fails: ..`")] if m]
     for edit, what in bad:
         print(f"- {edit}: {what}")
-    print(f"{len(edits())} edits, {len(bad)} of them do not apply")
+    print(f"{len(edits())} edits, {len(bad)} of them do not apply or say no fact")
     return 1 if bad else 0
 
 
