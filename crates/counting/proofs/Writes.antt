@@ -34,7 +34,7 @@ module _ {A : Type 0} where
   pub length-listed : (k : ℕ) (f : ℕ → A) → length (listed k f) ≡ k
   unfolding listed
   length-listed zero f = refl
-  length-listed (suc k) f = length-append (listed k f) (f k ∷ []) ∙ omega (arith, length-listed k f)
+  length-listed (suc k) f = length-append (listed k f) _ ∙ omega (arith, length-listed k f)
 
   -- the value at a place of the list
   pub getD-listed : (k : ℕ) (f : ℕ → A) (i : ℕ) (d : A) → i < k → getD (listed k f) i d ≡ f i
