@@ -22,7 +22,7 @@ import sys
 # In this order: the first whose words are in the complaint is its kind. Each with its reason.
 KINDS = [
     # -- the text of the edit, or of the proof, is no longer read as it stands
-    ("nothing", "the text is no declaration", r"cannot continue the declaration|parse|expected a |unexpected|unclosed"),
+    ("nothing", "the text is no declaration", r"cannot continue the declaration|parse error|expected a (name|term|type|declaration)|unclosed"),
     ("nothing", "a name is missing", r"not in scope|no such|is not declared|cannot be named|can be named from here|unknown (name|module)"),
     ("nothing", "the code has other places than the proof names", r"has no `Need-|has no `After-|has no field|no module"),
     ("nothing", "the list of the proof's parts is not the code's", r"expected type `tie\.Need-\S+`, but this has type `tie\.Need-"),
@@ -30,7 +30,6 @@ KINDS = [
     ("nothing", "the prover was not reached", r"error\["),
     # -- numbers at which the claim is false
     ("fact", "omega gives numbers at which all that is known holds and the claim fails", r"`omega`: the goal does not follow .*the goal fails, at"),
-    ("fact", "two different numbers", r"differ only where one has `\(?\d+\)?` \(\w+\) and the other has `\(?\d+\)?` \(\w+\)"),
     # -- a step of the proof does not go through
     ("reader", "omega does not prove it and gives no numbers", r"`omega`"),
     ("reader", "the equations known do not join the two sides", r"`cc`"),
@@ -46,7 +45,7 @@ VERDICT = re.compile(r"^# fails: \S")
 
 
 def first_complaint(log):
-    """The first complaint of a log on one line, without the place of its file."""
+    """The first complaint of a log, its place as in the crate."""
     lines = log.read_text(errors="replace").splitlines()
     for wanted in ("error", "note: "):
         for at, line in enumerate(lines):
@@ -56,13 +55,15 @@ def first_complaint(log):
                     if not more.startswith("  "):
                         break
                     told.append(more.strip())
-                return re.sub(r"^\S*/must-fail/[^/]+/[^/]+/", "", " ".join(told))
+                return re.sub(r"^(note: )?\S*/must-fail/[^/]+/[^/]+/", "", "\n".join(told))
     return ""
 
 
 def kind_of(complaint):
+    """The kind of a complaint, and why. What follows its first line is advice, in which a name may be said to be missing."""
+    first = complaint.split("\n", 1)[0]
     for kind, why, words in KINDS:
-        if re.search(words, complaint):
+        if re.search(words, first if kind == "nothing" else complaint, re.S):
             return kind, why
     return ("nothing", "no complaint") if not complaint else ("reader", "a complaint of no known kind")
 
@@ -121,16 +122,16 @@ def logs(listed):
         kind, why = kind_of(complaint)
         counts[kind] += 1
         if listed:
-            print(f"{kind}\t{crate}/{name}\t{why}\t{complaint[:400]}")
+            print(f"{kind}\t{crate}/{name}\t{why}\t{' '.join(complaint.split())[:400]}")
         if kind == "nothing":
             idle.append((crate, name, why, complaint))
         elif kind == "reader" and not verdict(edit):
             open_.append((crate, name, why, complaint))
     print(f"{sum(counts.values())} edits: {counts['fact']} refused at numbers, {counts['reader']} by a reader's verdict, {len(idle)} show nothing")
     for crate, name, why, complaint in idle:
-        print(f"- {crate}/{name} shows nothing ({why}): {complaint[:160]}")
+        print(f"- {crate}/{name} shows nothing ({why}): {' '.join(complaint.split())[:160]}")
     for crate, name, why, complaint in open_:
-        print(f"- {crate}/{name} has no line `# fails: ..` ({why}): {complaint[:160]}")
+        print(f"- {crate}/{name} has no line `# fails: ..` ({why}): {' '.join(complaint.split())[:160]}")
     return 1 if idle or open_ or not sum(counts.values()) else 0
 
 
