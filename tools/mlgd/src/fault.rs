@@ -85,12 +85,18 @@ impl fmt::Display for Fault {
 
 impl std::error::Error for Fault {}
 
-/// A text as a message shows it: no more than 40 characters of it.
+/// A text as a message shows it: no more than 40 characters of it, and none that would move a
+/// terminal's cursor or change its colours.
 pub fn short(text: &str) -> String {
-    match text.char_indices().nth(40) {
-        Some((end, _)) => format!("{}..", &text[..end]),
-        None => text.into(),
+    let shown = |character: char| match character.is_control() {
+        true => char::REPLACEMENT_CHARACTER,
+        false => character,
+    };
+    let mut short: String = text.chars().take(40).map(shown).collect();
+    if text.chars().nth(40).is_some() {
+        short += "..";
     }
+    short
 }
 
 /// A line of a file, for faults in it.
@@ -130,6 +136,7 @@ mod tests {
         let fault = place.fault("the line is empty", "");
         assert_eq!(fault.to_string(), "y.csv:3: the line is empty");
         assert_eq!(short("0.5"), "0.5");
+        assert_eq!(short("\u{1b}[2J7"), "\u{fffd}[2J7");
         assert_eq!(short(&"\u{2212}".repeat(50)), "\u{2212}".repeat(40) + "..");
         let fault = Fault::usage("mlgd decode", "--rows is not an option");
         let expected = "mlgd decode: --rows is not an option, see mlgd decode --help";
