@@ -41,7 +41,7 @@ const MOST_CELLS: usize = 100_000;
 const COLUMNS: [usize; 13] = [10, 20, 25, 40, 50, 80, 100, 150, 200, 250, 300, 400, 500];
 const LEFT: f64 = 70.0;
 const TOP: f64 = 80.0;
-const LEGEND_WIDTH: f64 = 270.0;
+const LEGEND_WIDTH: f64 = 290.0;
 const LEGEND_LINE: f64 = 20.0;
 
 /// Under the legend.
