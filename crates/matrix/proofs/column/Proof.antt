@@ -29,7 +29,7 @@ mul-result-2 c =
 shared-slice-read-result : tie.Need-shared-slice-read-result
 shared-slice-read-result c =
     let p = c .before .before .pre in
-    in-list (p .0 .sized) _ _ (p .1) (p .2)
+    omega (arith, in-list (p .0 .sized) _ _ (p .1) (p .2))
 
 cast-result : tie.Need-cast-result
 cast-result c =
