@@ -28,8 +28,9 @@ KINDS = [
     ("nothing", "the list of the proof's parts is not the code's", r"expected type `tie\.Need-\S+`, but this has type `tie\.Need-"),
     ("nothing", "a hole, or a goal that is not determined", r"is a hole|not yet determined|undetermined implicits, or was rejected"),
     ("nothing", "the prover was not reached", r"error\["),
-    # -- what is asked before a call, or before a cell is read: the proof may lack a fact that still holds
+    # -- what is asked before a call, an operation or a reading: the proof may lack a fact that still holds
     ("reader", "what a call asks does not follow", r"error: `[^`]*-requires[^`]*`:"),
+    ("reader", "what an operation asks does not follow", r"error: `(add|sub|mul|div|rem|neg|shl|shr|cast|slice|shared-slice|array)-[^`]*`:"),
     # -- numbers at which the claim is false
     ("fact", "omega gives numbers at which all that is known holds and the claim fails", r"`omega`: the goal does not follow .*the goal fails, at"),
     # -- a step of the proof does not go through
