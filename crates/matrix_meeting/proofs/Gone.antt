@@ -3,9 +3,10 @@
 --   gone-none     == no word is looked at yet
 --   gone-more     == one word more is looked at
 --   wordAt        == word v of the k-th column of row i
---   met-zero      == no bit is met twice in the four words of row i's columns exactly where no row is met at two of these columns
+--   met-says      == a bit is met twice in the four words of row i's columns exactly where a row is met at two of these columns
 -- Assumes nothing.
 use mathlib.Core.Path.{_≡_, ap₂, _∙_}
+use mathlib.Core.Bool.{false, not}
 use mathlib.Core.List.{List}
 use mathlib.Core.Logic.{inl, inr}
 use Prim.Native.Nat.{ℕ, zero, suc, _+_, _*_, _/_, _%_, _^_, _<_}
@@ -13,11 +14,14 @@ use native.Mathlib.Nat.{zero-div}
 use native.Mathlib.Decide.{ℕ-discrete}
 use native.Mathlib.Omega.{arith}
 use borrow.Author.Count.{below-more}
+use borrow.Author.Tests.{ne-eqb}
 use lib.Bits.{bitAnd, bitOr}
+use lib.Dec.{eqb}
 use lib.ListN.{getD}
 use Rattle.counting.specs.Digits.{digit}
+use Rattle.counting.proofs.Searches.{never}
 use Rattle.matrix.specs.Paper.Code.{Matrix, entry}
-use Rattle.matrix_meeting.specs.Marks.{MarksHeld, bitFor, Meets, MetOnce, MetZero}
+use Rattle.matrix_meeting.specs.Marks.{MarksHeld, bitFor, Meets, MetOnce, SaysTwice}
 use Rattle.matrix_meeting.specs.declared.Met.{Met}
 use Rattle.matrix_meeting.proofs.Words.{or-left, or-right, or-digit, and-none, and-digit, or-none, digit-none}
 
@@ -95,6 +99,10 @@ module _ (f : ℕ → ℕ) where
             in-other = two .in-other;
           }
 
+-- a number that is not unequal to 0
+is-zero : (x : ℕ) → not (eqb x 0) ≡ false → x ≡ 0
+is-zero x e = elim (ℕ-discrete x 0) [ yes z ↦ z | no n ↦ absurd (never (rw (ne-eqb x 0 n) at e)) ]
+
 -- what holds of 0 to 3
 four : (P : ℕ → Type 0) → P 0 → P 1 → P 2 → P 3 → (v : ℕ) → v < 4 → P v
 four P a b c d zero h = a
@@ -154,11 +162,11 @@ module _ (H : Matrix) (i : ℕ) (w : List ℕ) where
           in-other = in-word w (entry H i q′) r e′;
         }
 
-    pub met-zero : a .twice < 18446744073709551616 → b .twice < 18446744073709551616 → c .twice < 18446744073709551616
-        → d .twice < 18446744073709551616 → MetZero H i w (bitOr (bitOr (bitOr (a .twice) (b .twice)) (c .twice)) (d .twice))
-    met-zero la lb lc ld =
+    pub met-says : a .twice < 18446744073709551616 → b .twice < 18446744073709551616 → c .twice < 18446744073709551616
+        → d .twice < 18446744073709551616 → SaysTwice H i w (not (eqb (bitOr (bitOr (bitOr (a .twice) (b .twice)) (c .twice)) (d .twice)) 0))
+    met-says la lb lc ld =
         record {
-          once = met-once;
+          once = λ e. met-once (is-zero (bitOr (bitOr (bitOr (a .twice) (b .twice)) (c .twice)) (d .twice)) e);
           none = λ m.
               let za = none-twice 0 (omega arith) ga la m in
               let zb = none-twice 1 (omega arith) gb lb m in

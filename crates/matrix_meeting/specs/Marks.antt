@@ -9,10 +9,10 @@
 --   MarksOf H part i w     == the bits of w are those for the part's rows before row i at their columns, and no others
 --   Meets met x met′       == met′ is met with the bits of one word x more
 --   MetOnce H i w          == no row has its bits in w at two columns of row i
---   MetZero H i w r        == r is 0 exactly where no row has
+--   SaysTwice H i w r      == r is false exactly where no row has
 -- Assumes nothing.
 use mathlib.Core.Path.{_≡_}
-use mathlib.Core.Bool.{cond}
+use mathlib.Core.Bool.{Bool, false, cond}
 use mathlib.Core.List.{List}
 use Prim.Native.Nat.{ℕ, zero, suc, _+_, _*_, _/_, _%_, _^_, _<_}
 use lib.Bits.{bitAnd, bitOr}
@@ -71,7 +71,7 @@ unfoldable pub MetOnce : Matrix → ℕ → List ℕ → Type 0
 MetOnce H i w =
     (q q′ : ℕ) → q < q′ → q′ < H .rho → (r : ℕ) → MarksHeld w (bitFor (entry H i q) r) → MarksHeld w (bitFor (entry H i q′) r) → ⊥
 
--- r is 0 exactly where no row has
-pub record MetZero (H : Matrix) (i : ℕ) (w : List ℕ) (r : ℕ) : Type 0 where
-  pub once : r ≡ 0 → MetOnce H i w
-  pub none : MetOnce H i w → r ≡ 0
+-- r is false exactly where no row has
+pub record SaysTwice (H : Matrix) (i : ℕ) (w : List ℕ) (r : Bool) : Type 0 where
+  pub once : r ≡ false → MetOnce H i w
+  pub none : MetOnce H i w → r ≡ false

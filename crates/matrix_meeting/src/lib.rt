@@ -7,7 +7,7 @@ ghost use Prim.Native.Nat.{_+_, _*_, _<_, _≤_};
 ghost use lib.ListN.{length, getD};
 ghost use Rattle.matrix.specs.Ordered.{Ordered};
 ghost use Rattle.matrix.specs.Paper.Shapes.{matrixOf};
-ghost use Rattle.matrix_meeting.specs.Marks.{Meets, MetZero, Unmarked, bitFor, marked, noted};
+ghost use Rattle.matrix_meeting.specs.Marks.{Meets, SaysTwice, Unmarked, bitFor, marked, noted};
 ghost use Rattle.matrix_meeting.specs.Overlaps.{RowsSeen, partOverlaps, hasOverlap};
 
 // The bits that were met in one word after another, and those of them that were met twice.
@@ -29,10 +29,10 @@ fn meet(met: Met, seen: &[u64], at: usize) -> Met
 }
 
 // Meets the rows seen in the columns of row i: each column has four words, one bit for each row of a part.
-// The answer is 0 where no row is met twice, so none has two columns of row i, and only there.
-fn met_twice(shape: Shape, list: &[u16], i: usize, seen: &[u64]) -> u64
+// Whether a row is met twice, so has two columns of row i.
+fn met_twice(shape: Shape, list: &[u16], i: usize, seen: &[u64]) -> bool
     requires { ⌜ Ordered (matrixOf shape (now list)) × (i < shape .m) × (shape .n * 4 ≤ length (now seen)) ⌝ }
-    ensures { λ r. ⌜ MetZero (matrixOf shape (now (list .entry))) i (now (seen .entry)) r ⌝ }
+    ensures { λ r. ⌜ SaysTwice (matrixOf shape (now (list .entry))) i (now (seen .entry)) r ⌝ }
 {
     let rho = shape.rho as usize;
     let mut a = Met { once: 0, twice: 0 };
@@ -48,7 +48,7 @@ fn met_twice(shape: Shape, list: &[u16], i: usize, seen: &[u64]) -> u64
         d = meet(d, seen, at + 3);
         k += 1;
     }
-    a.twice | b.twice | c.twice | d.twice
+    (a.twice | b.twice | c.twice | d.twice) != 0
 }
 
 // Notes that row i has column c.
@@ -84,7 +84,7 @@ fn rows_twice(shape: Shape, list: &[u16], part: usize, seen: &mut [u64]) -> bool
     let m = shape.m as usize;
     let mut i = part * 256;
     while i < m {
-        if met_twice(shape, list, i, seen) != 0 {
+        if met_twice(shape, list, i, seen) {
             return true;
         }
         note_row(shape, list, part, i, seen);

@@ -1,3 +1,4 @@
 pub mod Turns
 pub mod Pieces
 pub mod Printed
+pub mod LineRule

@@ -3,16 +3,17 @@
 --   fits         == what is wanted fits the input buffer
 --   lent-next    == after a piece the run can go on
 --   rank-next    == and fewer stages are left
+--   one-more     == a piece is one reply more
 -- Assumes nothing.
 use mathlib.Core.Path.{_≡_, sym, ap, _∙_, subst}
 use mathlib.Core.List.{List}
 use Prim.Native.Nat.{ℕ, _≤_, _<_}
 use native.Mathlib.Omega.{arith}
-use lib.ListN.{length, take}
+use lib.ListN.{length, take, length-take}
 use Rattle.program_ends.specs.Stages.{Awaited, wanted, firstReply}
 use Rattle.program_ends.specs.Replies.{Ready, RepliedOver}
 use Rattle.program_ends.proofs.Stages.{wanted-fits, ready-next, rank, rank-falls}
-use Rattle.program.specs.Pieces.{PieceLent, Piece}
+use Rattle.program.specs.Pieces.{PieceLent, Piece, Replies, more}
 
 -- the run begins
 pub lent-first : {a : Awaited} {w e : ℕ} {l input out₀ out : List ℕ} → RepliedOver firstReply a w e out₀ out → length l ≡ 32736 → length input ≡ 65536 → length out ≡ 65536
@@ -42,3 +43,9 @@ module _ {a : Awaited} {w : ℕ} {l input out : List ℕ} (b : PieceLent a w l i
     rank-next h =
         let some : 0 < wanted a = omega (arith, b .want) in
         omega (arith, ap rank (p .advanced .replied .reply .awaited), rank-falls a (take (p .got) input′) (b .ready) some)
+
+    -- a piece is one reply more
+    pub one-more : {a₀ : Awaited} → Replies a₀ a → Replies a₀ a′
+    one-more r =
+        subst (Replies _) (sym (p .advanced .replied .reply .awaited))
+        (more r (take (p .got) input′) (omega (arith, p .few, length-take (p .got) input′)))

@@ -2,6 +2,8 @@
 --   PieceLent a w l input out       == the run awaits a, which wants w bytes, and its buffers are long enough
 --   piecesText t a bs          == the texts of t replies from a on, each to the front of what is left of the input
 --   Piece a l l′ input input′ ..   == the front of `input′` came for a; a′ is awaited then, and the reply's text stands before e in `out′`
+--   Replies a b                    == from a on, replies to pieces of input lead to b
+--   RunDone a b                    == they do, and b wants nothing more
 -- Assumes nothing.
 use Prim.Native.Nat.{ℕ, zero, suc, _≤_}
 use mathlib.Core.Path.{_≡_}
@@ -29,3 +31,13 @@ pub record Piece (a : Awaited) (l l′ input input′ : List ℕ) (a′ : Awaite
   pub few : got ≤ wanted a
   pub unread : drop (wanted a) input′ ≡ drop (wanted a) input
   pub advanced : Advanced a (take got input′) l l′ a′ w e out out′
+
+-- each piece is no longer than what is wanted
+pub data Replies (a : Awaited) : Awaited → Type 0 where
+  none : Replies a a
+  more : {b : Awaited} → Replies a b → (bs : List ℕ) → length bs ≤ wanted b → Replies a (replyTo b bs .awaited)
+
+-- the run is at its end
+pub record RunDone (a b : Awaited) : Type 0 where
+  pub replies : Replies a b
+  pub done : wanted b ≡ 0

@@ -3,9 +3,8 @@
 // Document 01: "Worked by hand", the paragraph on the program.
 use program_ends::Next;
 use program_ends::Stage;
-ghost use mathlib.Core.Path.{_≡_};
 ghost use Rattle.program_ends.specs.Replies.{awaitedOf};
-ghost use Rattle.program.specs.Pieces.{PieceLent, Piece};
+ghost use Rattle.program.specs.Pieces.{PieceLent, Piece, RunDone};
 
 // Reads what a stage wants, and prints the reply.
 fn read_and_reply(
@@ -19,15 +18,15 @@ fn read_and_reply(
     ensures { λ r. ⌜ Piece (awaitedOf stage (now (list .entry))) (now (list .entry)) (now (list .exit)) (now (input .entry)) (now (input .exit)) (awaitedOf (r .stage) (now (list .exit))) (r .want) (r .end) (now (out .entry)) (now (out .exit)) ⌝ }
 {
     let got = program_io::read(input, want);
-    let next = program_ends::advance(stage, list, &input[..got], out);
+    let next = program_ends::reply_to(stage, list, input, got, out);
     program_io::print(out, next.end);
     next
 }
 
-// Reads and prints until nothing more is wanted. Answers how many bytes that is: none.
-fn until_done(first: Next, list: &mut [u16], input: &mut [u8], out: &mut [u8]) -> usize
+// Reads and prints until nothing more is wanted, and answers with the stage that is reached.
+fn until_done(first: Next, list: &mut [u16], input: &mut [u8], out: &mut [u8]) -> Stage
     requires { ⌜ PieceLent (awaitedOf (first .stage) (now list)) (first .want) (now list) (now input) (now out) ⌝ }
-    ensures { λ r. ⌜ r ≡ 0 ⌝ }
+    ensures { λ r. ⌜ RunDone (awaitedOf (first .stage) (now (list .entry))) (awaitedOf r (now (list .exit))) ⌝ }
 {
     let mut stage = first.stage;
     let mut want = first.want;
@@ -36,7 +35,7 @@ fn until_done(first: Next, list: &mut [u16], input: &mut [u8], out: &mut [u8]) -
         stage = next.stage;
         want = next.want;
     }
-    want
+    stage
 }
 
 // The program.

@@ -161,8 +161,8 @@ fn after_blocks(
     at_blocks(shape, setting, number + some as u16, end)
 }
 
-// The bytes came that a stage awaits, or fewer where the input ended. Only this repository's crates call it.
-pub fn advance(stage: Stage, list: &mut [u16], bytes: &[u8], out: &mut [u8]) -> Next
+// The bytes came that a stage awaits, or fewer where the input ended.
+fn advance(stage: Stage, list: &mut [u16], bytes: &[u8], out: &mut [u8]) -> Next
     requires { ⌜ Asked (awaitedOf stage (now list)) (now list) (now bytes) (now out) ⌝ }
     ensures { λ r. ⌜ Advanced (awaitedOf stage (now (list .entry))) (now (bytes .entry)) (now (list .entry)) (now (list .exit)) (awaitedOf (r .stage) (now (list .exit))) (r .want) (r .end) (now (out .entry)) (now (out .exit)) ⌝ }
 {
@@ -175,4 +175,12 @@ pub fn advance(stage: Stage, list: &mut [u16], bytes: &[u8], out: &mut [u8]) -> 
         }
         Stage::AtEnd => ended(out, 0),
     }
+}
+
+// The same for bytes at the front of a buffer, of which `got` came. Only this repository's crates call it.
+pub fn reply_to(stage: Stage, list: &mut [u16], input: &[u8], got: usize, out: &mut [u8]) -> Next
+    requires { ⌜ (got ≤ length (now input)) × Asked (awaitedOf stage (now list)) (now list) (take got (now input)) (now out) ⌝ }
+    ensures { λ r. ⌜ Advanced (awaitedOf stage (now (list .entry))) (take got (now (input .entry))) (now (list .entry)) (now (list .exit)) (awaitedOf (r .stage) (now (list .exit))) (r .want) (r .end) (now (out .entry)) (now (out .exit)) ⌝ }
+{
+    advance(stage, list, &input[..got], out)
 }

@@ -5,7 +5,7 @@ use native.Mathlib.Omega.{arith}
 use lib.ListN.{getD}
 use Rattle.matrix.specs.Paper.Code.{entry}
 use Rattle.matrix.specs.Paper.Shapes.{matrixOf}
-use Rattle.matrix_meeting.proofs.Gone.{Gone, wordAt, gone-none, gone-more, met-zero}
+use Rattle.matrix_meeting.proofs.Gone.{Gone, wordAt, gone-none, gone-more, met-says}
 use Rattle.matrix_meeting.proofs.met_twice.Statement.{statement}
 use Rattle.matrix_meeting.proofs.met_twice.Tie as tie
 
@@ -81,7 +81,7 @@ returns c =
     let H = matrixOf (a .shape) (a .list .now) in
     let l = c .before .before .before .before .before .loop in
     let e : l .k ≡ a .shape .rho = omega arith in
-    met-zero H (a .i) (a .seen .now) (rw e at (l .inv .1)) (rw e at (l .inv .2)) (rw e at (l .inv .3)) (rw e at (l .inv .4))
+    met-says H (a .i) (a .seen .now) (rw e at (l .inv .1)) (rw e at (l .inv .2)) (rw e at (l .inv .3)) (rw e at (l .inv .4))
     (omega (arith, c .before .before .before .struct-known2 .given)) (omega (arith, c .before .before .struct-known3 .given))
     (omega (arith, c .before .struct-known4 .given)) (omega (arith, c .struct-known5 .given))
 

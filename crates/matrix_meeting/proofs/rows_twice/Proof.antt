@@ -1,12 +1,12 @@
 -- `matrix_meeting::rows_twice` meets its contract. The loop's invariant: the bits set are those for the part's rows passed, and no row
 -- passed has two columns in common with an earlier row of the part. Assumes nothing.
-use mathlib.Core.Path.{_≡_, refl, _∙_}
+use mathlib.Core.Path.{_≡_, refl, sym, _∙_}
 use mathlib.Core.Bool.{true, false}
 use Prim.Native.Nat.{ℕ, _*_, _-_, _≤_, _<_}
 use native.Mathlib.Omega.{arith}
 use borrow.Author.Count.{below-more}
 use lib.ListN.{length}
-use Rattle.counting.proofs.Searches.{cases}
+use Rattle.counting.proofs.Searches.{cases, never}
 use Rattle.matrix.specs.Paper.Shapes.{matrixOf}
 use Rattle.matrix_meeting.specs.Marks.{MarksOf}
 use Rattle.matrix_meeting.specs.Overlaps.{meetsPart}
@@ -56,7 +56,7 @@ returns c =
     let here : meetsPart H (b .args .part) (l .i) ≡ true =
     cases (meetsPart H (b .args .part) (l .i)) (λ y. y) (λ n.
     let once = clear-once H (b .pre .0) (b .args .part) (l .i) (l .seen) (omega arith) (l .inv .2) n in
-    absurd (omega (arith, c .before .met-twice .ensures .none once, c .if1 .taken))) in
+    absurd (never (sym (c .if1 .taken) ∙ c .before .met-twice .ensures .none once))) in
     seen-some H (b .args .part) (l .i) (b .args .seen .now) (l .seen) (omega arith) (l .inv .1) (l .inv .2) (l .inv .3) here
 
 note-row-requires : tie.Need-note-row-requires Inv-loop μ-loop
@@ -83,7 +83,7 @@ loop-again c =
       long-noted H (l .i) (l .seen) part (n .last .1 .1 .1 .1 .0) (n .ensures) ∙ l .inv .1,
       marks-more H part (l .i) (l .seen) room (l .inv .2) (n .last .1 .1 .1 .1 .0) (n .ensures),
       below-more (λ (x : ℕ). meetsPart H part x ≡ false) (l .i) (l .inv .3)
-          (once-clear H (b .pre .0) part (l .i) (l .seen) (omega arith) (l .inv .2) (met .once (omega (arith, c .before .before .before .before .if1 .left)))),
+          (once-clear H (b .pre .0) part (l .i) (l .seen) (omega arith) (l .inv .2) (met .once (c .before .before .before .before .if1 .left))),
     )
 
 same-length-2 : tie.Need-same-length-2 Inv-loop μ-loop

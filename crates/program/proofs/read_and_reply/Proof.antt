@@ -2,7 +2,6 @@
 use mathlib.Core.Path.{sym}
 use native.Mathlib.Omega.{arith}
 use lib.ListN.{length-take}
-use lib.Seq.{length-take-le}
 use Rattle.program.proofs.Pieces.{fits}
 use borrow.Author.Needs.{needs}
 use Rattle.program.proofs.read_and_reply.Statement.{statement}
@@ -11,30 +10,21 @@ use Rattle.program.proofs.read_and_reply.Tie as tie
 read-requires : tie.Need-read-requires
 read-requires c κs = fits (c .before .before .before .before .pre)
 
-slice-reshare-prefix-advance : tie.Need-slice-reshare-prefix-advance
-slice-reshare-prefix-advance c =
-    let r = c .before .before .before in
-    omega (arith, r .read .ensures .0, r .read .kept, fits (r .before .before .before .before .before .pre))
-
-slice-aggregate-advance : tie.Need-slice-aggregate-advance
-slice-aggregate-advance c =
-    let r = c .before .before .before .before in
-    sym (length-take-le (r .read .result) (r .read .last .0)
-    (omega (arith, r .read .ensures .0, r .read .kept, fits (r .before .before .before .before .before .pre))))
-
-advance-requires : tie.Need-advance-requires
-advance-requires c κs =
+reply-to-requires : tie.Need-reply-to-requires
+reply-to-requires c κs =
     let r = c .before .before .before .before .before in
-    let s = c .before .before .before .before .before .before .before .before .before .before in
-    record {
-      ready = s .pre .ready;
-      came = omega (arith, r .read .ensures .0, s .pre .want, length-take (r .read .result) (r .read .last .0));
-      list = s .pre .list;
-      room = s .pre .room;
-    }
+    let s = c .before .before .before .before .before .before .before .before .before .before in (
+      omega (arith, r .read .ensures .0, r .read .kept, fits (s .pre)),
+      record {
+        ready = s .pre .ready;
+        came = omega (arith, r .read .ensures .0, s .pre .want, length-take (r .read .result) (r .read .last .0));
+        list = s .pre .list;
+        room = s .pre .room;
+      },
+    )
 
 print-requires : tie.Need-print-requires
-print-requires c κs = search needs
+print-requires c κs = c .before .before .before .before .before .reply-to .ensures .replied .reply .fits
 
 same-length : tie.Need-same-length
 same-length c = search needs
@@ -53,7 +43,7 @@ returns c =
       got = r .read .result;
       few = omega (arith, r .read .ensures .0, s .pre .want);
       unread = rw (sym (s .pre .want)) (r .read .ensures .1);
-      advanced = c .before .before .before .before .before .before .advance .ensures;
+      advanced = c .before .before .before .before .before .before .reply-to .ensures;
     }
 
 pub read-and-reply-spec : {M : Type 1} → statement M
@@ -61,9 +51,7 @@ read-and-reply-spec =
     tie.close
     (tie.spec
     read-requires
-    slice-reshare-prefix-advance
-    slice-aggregate-advance
-    advance-requires
+    reply-to-requires
     print-requires
     same-length
     same-length-2

@@ -1,8 +1,9 @@
 -- The flipping rule for iterative voting in single rounds, nothing altered in between. This rule is this project's own.
 --   SteppedRight H S c xs h   == the sequence ends within the bound, decoded with the codeword sent
 --   SteppingRule H S xs h     == so for every accepted opening near a codeword
--- proofs/SteppingRule.antt proves the last. Assumes nothing.
-use Prim.Native.Nat.{ℕ, _≤_, _<_}
+--   AmpleStepping H S xs h    == the same for a round limit of L / 2 + 1 or more, however many bits are wrong
+-- proofs/SteppingRule.antt proves the last two. Assumes nothing.
+use Prim.Native.Nat.{ℕ, _+_, _/_, _≤_, _<_}
 use mathlib.Core.Path.{_≡_}
 use mathlib.Core.List.{List}
 use lib.Ieee.{Float}
@@ -30,3 +31,8 @@ abbrev pub SteppingRule : Matrix → Setting → List Float → Held → Type 0
 SteppingRule H S xs h =
     (c : List ℕ) → openVerdict H S xs h ≡ accepted → SamplesWithinHalf H S c xs
     → roundsFor (largest (S .bits)) (H .gamma) (wrongBits H c xs) ≤ S .limit → SteppedRight H S c xs h
+
+-- a limit of L / 2 + 1 always leaves them
+abbrev pub AmpleStepping : Matrix → Setting → List Float → Held → Type 0
+AmpleStepping H S xs h =
+    (c : List ℕ) → openVerdict H S xs h ≡ accepted → SamplesWithinHalf H S c xs → largest (S .bits) / 2 + 1 ≤ S .limit → SteppedRight H S c xs h
