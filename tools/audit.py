@@ -26,7 +26,7 @@ KINDS = [
     ("nothing", "a name is missing", r"not in scope|no such|is not declared|cannot be named|can be named from here|unknown (name|module)"),
     ("nothing", "the code has other places than the proof names", r"has no `Need-|has no `After-|has no field|no module"),
     ("nothing", "the list of the proof's parts is not the code's", r"expected type `tie\.Need-\S+`, but this has type `tie\.Need-"),
-    ("nothing", "a hole, or a goal that is not determined", r"is a hole|not yet determined|undetermined implicits, or was rejected"),
+    ("nothing", "a hole, or a goal that is not determined", r"is a hole|not yet determined"),
     ("nothing", "the prover was not reached", r"error\["),
     # -- what is asked before a call, an operation or a reading: the proof may lack a fact that still holds
     ("reader", "what a call asks does not follow", r"error: `[^`]*-requires[^`]*`:"),
@@ -48,11 +48,11 @@ VERDICT = re.compile(r"^# fails: \S")
 
 
 def first_complaint(log):
-    """The first complaint of a log, its place as in the crate."""
+    """The first complaint of a log, its place as in the crate. One that rests on another refused declaration is passed over."""
     lines = log.read_text(errors="replace").splitlines()
     for wanted in ("error", "note: "):
         for at, line in enumerate(lines):
-            if PLACE.match(line) and wanted in line:
+            if PLACE.match(line) and wanted in line and "so this cannot be checked" not in line:
                 told = [line]
                 for more in lines[at + 1 :]:
                     if not more.startswith("  "):

@@ -35,7 +35,7 @@ put-decimal-put-last-requires : (t : ℕ) → put-decimal-lts.Need-put-last-requ
 ) (put-decimal-at t) put-decimal.Post
 put-decimal-put-last-requires t c κs =
     let s = c .before .before .before in
-    omega (arith, s .pre .1, ap length (decimal-one (s .args .x) (c .before .if1 .taken)))
+    omega (arith, s .pre .1, ap length (decimal-one (s .args .x) (omega (arith, c .before .if1 .taken))))
 
 put-decimal-same-length : (t : ℕ) → put-decimal-lts.Need-same-length (
   put-last-reads.Asked,
@@ -53,7 +53,7 @@ put-decimal-returns : (t : ℕ) → put-decimal-lts.Need-returns (
 ) (put-decimal-at t) put-decimal.Post
 put-decimal-returns t c =
     let s = c .before .before .before .before .before .before in
-    let h : s .args .x < 10 = c .before .before .before .before .if1 .taken in
+    let h : s .args .x < 10 = omega (arith, c .before .before .before .before .if1 .taken) in
     let e : s .args .x % 10 ≡ s .args .x = omega arith in
     put-as (ap (λ (d : ℕ). digit d ∷ []) e ∙ sym (decimal-one (s .args .x) h)) (c .before .before .put-last .ensures)
 
@@ -65,7 +65,7 @@ put-decimal-put-decimal-requires : (t : ℕ) → put-decimal-lts.Need-put-decima
 ) (put-decimal-at t) put-decimal.Post
 put-decimal-put-decimal-requires t c κs =
     let s = c .before .before .before in
-    let h : 10 ≤ s .args .x = c .before .if1 .left in
+    let h : 10 ≤ s .args .x = omega (arith, c .before .if1 .left) in
     (omega (arith, s .pre .0), omega (arith, s .pre .1, length-decimal-more (s .args .x) h))
 
 put-decimal-put-last-requires-2 : (t : ℕ) → put-decimal-lts.Need-put-last-requires-2 (
