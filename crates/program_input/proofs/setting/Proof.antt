@@ -2,6 +2,7 @@
 use mathlib.Core.Path.{_≡_, sym, ap, _∙_}
 use mathlib.Core.Bool.{false}
 use Prim.Native.Nat.{ℕ}
+use native.Mathlib.Omega.{arith}
 use borrow.Author.Tests.{not-true, not-false}
 use borrow.Author.Needs.{needs}
 use lib.Ieee.{binary32, ofBits}
@@ -26,7 +27,7 @@ returns : tie.Need-returns
 unfolding settingIn
 returns c =
     let bs = c .before .before .before .before .args .bytes .now in
-    begins-refused (settingIn bs) (kind-unfit (settingIn bs) (c .if1 .taken))
+    begins-refused (settingIn bs) (kind-unfit (settingIn bs) (omega (arith, c .if1 .taken)))
 
 finite-pattern-requires : tie.Need-finite-pattern-requires
 finite-pattern-requires c κs = search needs
