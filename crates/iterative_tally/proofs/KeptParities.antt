@@ -77,7 +77,8 @@ module _ (H : Matrix) (a : Accepted H) (x : List ℕ) (d : Indexed H x) where
         }
 
 -- the parities of all rows, written over an array of parities
-pub rows-renewed : (H : Matrix) (z : ℕ → ℕ) (p p′ : List ℕ) → H .m ≤ 1023 → Bits p → p′ ≡ over (listed (H .m) (rowFails (H .list) (H .rho) z)) p → Renewed H z p p′
+pub rows-renewed : (H : Matrix) (z : ℕ → ℕ) (p p′ : List ℕ) → H .m ≤ 1023 → Bits p
+    → p′ ≡ over (listed (H .m) (rowFails (H .list) (H .rho) z)) p → Renewed H z p p′
 rows-renewed H z p p′ few b e =
     record {
       parities = record {

@@ -51,9 +51,12 @@ module _ (H : Matrix) (S : Setting) (xs : List Float) (d : Decodable H S) (whole
   asked : iterativeVerdict H S xs (length (cleared (H .n))) (length (flat (H .n))) ≡ accepted
   unfolding iterativeVerdict samplesVerdict blockVerdict
   asked =
-      rw (is-accepted H (d .matrix), d .setting,
-      fit-lengths (length xs) (H .n) (length (cleared (H .n))) (bytesFor (H .n)) (length (flat (H .n))) (H .n) whole
-      (omega (arith, cleared-long (H .n))) (omega (arith, flat-long (H .n)))) finite
+      rw (
+        is-accepted H (d .matrix),
+        d .setting,
+        fit-lengths (length xs) (H .n) (length (cleared (H .n))) (bytesFor (H .n)) (length (flat (H .n))) (H .n) whole
+            (omega (arith, cleared-long (H .n))) (omega (arith, flat-long (H .n))),
+      ) finite
 
   module _ (c : List ℕ) (near : SamplesWithinHalf H S c xs) (time : roundsFor (largest (S .bits)) (H .gamma) (wrongBits H c xs) ≤ S .limit) where
     -- and what it says is what the block says

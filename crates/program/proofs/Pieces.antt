@@ -16,7 +16,8 @@ use Rattle.program_ends.proofs.Stages.{wanted-fits, ready-next, rank, rank-fall
 use Rattle.program.specs.Pieces.{PieceLent, Piece, Replies, more}
 
 -- the run begins
-pub lent-first : {a : Awaited} {w e : ℕ} {l input out₀ out : List ℕ} → RepliedOver firstReply a w e out₀ out → length l ≡ 32736 → length input ≡ 65536 → length out ≡ 65536
+pub lent-first : {a : Awaited} {w e : ℕ} {l input out₀ out : List ℕ} → RepliedOver firstReply a w e out₀ out
+    → length l ≡ 32736 → length input ≡ 65536 → length out ≡ 65536
     → PieceLent a w l input out
 lent-first r x y z =
     record { ready = subst Ready (sym (r .reply .awaited)) tt; want = r .reply .want ∙ ap wanted (sym (r .reply .awaited)); list = x; long = y; room = z }

@@ -45,13 +45,7 @@ fn parities(list: &[u16], m: usize, rho: usize, bits: &[u8; 1023], parity: &mut 
 
 // The same, with the loop over a row's entries laid out for each of the smallest row weights.
 // Only this repository's crates call it, with rows of an accepted matrix.
-pub fn row_parities(
-    list: &[u16],
-    m: usize,
-    rho: usize,
-    bits: &[u8; 1023],
-    parity: &mut [u8; 1023],
-)
+pub fn row_parities(list: &[u16], m: usize, rho: usize, bits: &[u8; 1023], parity: &mut [u8; 1023])
     requires { ⌜ Checks (now list) m rho (at (now bits)) × (length (now parity) ≡ 1023) ⌝ }
     ensures { λ _. ⌜ now (parity .exit) ≡ over (listed m (rowFails (now (list .entry)) rho (at (now (bits .entry))))) (now (parity .entry)) ⌝ }
 {

@@ -59,7 +59,8 @@ loop-again c =
     let l = c .before .before .before in
     let a = entered l .args in (
       omega arith,
-      biased-step (l .loop .j) (a .middle) (a .levels .now) (a .kept .now) (l .loop .kept) (l .loop .inv .1) (omega (arith, entered l .pre .0 .columns)) (c .bias-one .result)
+      biased-step (l .loop .j) (a .middle) (a .levels .now) (a .kept .now) (l .loop .kept) (l .loop .inv .1)
+          (omega (arith, entered l .pre .0 .columns)) (c .bias-one .result)
           (c .bias-one .ensures ∙ ap (biased (a .middle)) (byte-back l (omega arith))),
     )
 

@@ -42,7 +42,8 @@ same-length c = search needs
 returns : tie.Need-returns
 returns c =
     let s = c .before .before .before .before .before .before .before .before .before in
-    replied-at (c .before .before .before .before .enum-told .given .1) (s .args .list .now) (s .args .bytes .now) (c .before .before .after-sizes .ensures _) refl
+    replied-at (c .before .before .before .before .enum-told .given .1) (s .args .list .now) (s .args .bytes .now)
+    (c .before .before .after-sizes .ensures _) refl
 
 same-length-2 : tie.Need-same-length-2
 same-length-2 c = search needs
@@ -86,7 +87,8 @@ same-length-8 c = search needs
 returns-5 : tie.Need-returns-5
 returns-5 c =
     let s = c .before .before .before .before .before .before .before in
-    replied-at (c .before .before .enum-told2 .given .1) (s .args .list .now) (s .args .bytes .now) (record { reply = c .ended .ensures .0 _; rest = refl }) refl
+    replied-at (c .before .before .enum-told2 .given .1) (s .args .list .now) (s .args .bytes .now)
+    (record { reply = c .ended .ensures .0 _; rest = refl }) refl
 
 pub advance-spec : {M : Type 1} → statement M
 advance-spec =

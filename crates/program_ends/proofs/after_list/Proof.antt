@@ -36,7 +36,8 @@ returns c =
     let H = matrixOf (s .args .shape) [] in
     record {
       replied = replied-over (p .put-short .ensures) (omega (arith, s .pre .room)) (c .ended .ensures .1)
-          (ap ends (text-alone (p .put-short .ensures) (omega (arith, s .pre .room))) ∙ list-short H (s .args .bytes .now) (omega arith)) (c .ended .ensures .0 _);
+          (ap ends (text-alone (p .put-short .ensures) (omega (arith, s .pre .room))) ∙ list-short H (s .args .bytes .now) (omega arith))
+          (c .ended .ensures .0 _);
       list = kept-short H (s .args .bytes .now) _ (omega arith);
     }
 
