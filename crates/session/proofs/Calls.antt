@@ -23,7 +23,7 @@ use Rattle.session_record.specs.Paper.Record.{Course, Record, working, decoded,
 use Rattle.session_asking.specs.Paper.Asked.{Held, lent, openVerdict, stepVerdict}
 use Rattle.session_asking.specs.Paper.PlainCalls.{Steppable}
 use Rattle.session.specs.Paper.Steps.{courseFor, heldAt, openedLeft, openOf, steppedState, steppedLeft, stepOf}
-use Rattle.session.specs.Paper.Stepping.{Means, Ran, opened, stepped, step-refused, open-refused, Within}
+use Rattle.session.specs.Paper.WholeBySteps.{Means, Ran, opened, stepped, step-refused, open-refused, Within}
 use Rattle.session_asking.proofs.Questions.{accepted-open, accepted-step}
 use Rattle.session.proofs.Kept.{refused-open-keeps, refused-step-keeps, accepted-opens, accepted-steps, start-bits, round-bits}
 use Rattle.session.proofs.Buffers.{bits-back}

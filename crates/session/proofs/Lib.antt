@@ -1,6 +1,6 @@
 pub mod Buffers
 pub mod Calls
-pub mod Stepping
-pub mod SteppingRule
+pub mod WholeBySteps
+pub mod StepsRule
 pub mod Answers
 pub mod Kept

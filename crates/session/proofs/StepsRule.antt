@@ -14,8 +14,8 @@ use Rattle.iterative_rule.specs.Paper.Claims.{wrongBits}
 use Rattle.iterative_rule.proofs.FlippingRule.{iterative-rule}
 use Rattle.iterative_rule.proofs.Ends.{rounds-most}
 use Rattle.session_asking.specs.Paper.Asked.{Held, openVerdict}
-use Rattle.session.specs.Paper.SteppingRule.{SteppingRule, AmpleStepping}
-use Rattle.session.proofs.Stepping.{stepping-is-whole, steps-rounds}
+use Rattle.session.specs.Paper.StepsRule.{SteppingRule, AmpleStepping}
+use Rattle.session.proofs.WholeBySteps.{stepping-is-whole, steps-rounds}
 
 -- stepping obeys the flipping rule for iterative voting
 pub stepping-rule : (H : Matrix) (S : Setting) (xs : List Float) (h : Held) → SteppingRule H S xs h

@@ -5,7 +5,7 @@
 --   Means H r z            == what the state of a record says of the word it stands for
 --   Ran limit r t          == a session whose record only its own calls change has the record r after t accepted steps
 --   Within limit r t       == it is within its round limit of accepted steps
--- proofs/Stepping.antt and proofs/Calls.antt prove these for every accepted input. Assumes nothing.
+-- proofs/WholeBySteps.antt and proofs/Calls.antt prove these for every accepted input. Assumes nothing.
 use Prim.Native.Nat.{ℕ, zero, suc, _≤_, _<_}
 use mathlib.Core.Path.{_≡_}
 use mathlib.Core.List.{List}

@@ -2,7 +2,7 @@
 --   SteppedRight H S c xs h   == the sequence ends within the bound, decoded with the codeword sent
 --   SteppingRule H S xs h     == so for every accepted opening near a codeword
 --   AmpleStepping H S xs h    == the same for a round limit of L / 2 + 1 or more, however many bits are wrong
--- proofs/SteppingRule.antt proves the last two. Assumes nothing.
+-- proofs/StepsRule.antt proves the last two. Assumes nothing.
 use Prim.Native.Nat.{ℕ, _+_, _/_, _≤_, _<_}
 use mathlib.Core.Path.{_≡_}
 use mathlib.Core.List.{List}
@@ -14,7 +14,7 @@ use Rattle.quantiser_levels.specs.Paper.Samples.{Setting, largest, hardWord}
 use Rattle.iterative_rule.specs.Paper.Claims.{wrongBits, roundsFor, SamplesWithinHalf}
 use Rattle.session_asking.specs.Paper.Asked.{Held, openVerdict, stepVerdict}
 use Rattle.session.specs.Paper.Steps.{openOf}
-use Rattle.session.specs.Paper.Stepping.{stepsOf}
+use Rattle.session.specs.Paper.WholeBySteps.{stepsOf}
 
 -- so many accepted steps after the opening, none where no bit is wrong: decoded, rounds the steps, failing 0, changed the number of
 -- wrong bits; the word is the codeword sent
