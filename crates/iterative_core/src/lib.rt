@@ -92,7 +92,7 @@ pub fn iterative_accepted(
     let limit = setting.limit;
     let middle = largest_of(setting.bits);
     let mut bits = [0u8; 1023];
-    let mut kept = [0u8; 1023];
+    let mut kept: [Kept; 1023] = [0; 1023];
     let mut hard = [0u8; 128];
     start(setting, samples, middle, levels, &mut bits, &mut kept);
     packed_word::pack_into(&bits, n, &mut hard);

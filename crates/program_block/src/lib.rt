@@ -4,6 +4,7 @@ use answers::Answer;
 use answers::Refusal;
 use matrix_check::Shape;
 use quantiser::Setting;
+use quantiser_levels::Cell;
 ghost use Rattle.answers.specs.Paper.Enums.{saidOf};
 ghost use Rattle.matrix.specs.Paper.Shapes.{matrixOf};
 ghost use Rattle.quantiser_settings.specs.Paper.Settings.{settingOf};
@@ -30,7 +31,7 @@ pub fn decode(
     if place < n {
         return Answer::Refused(Refusal::Sample(place as u16));
     }
-    let mut levels = [0i8; 1023];
+    let mut levels: [Cell; 1023] = [0; 1023];
     let report = iterative_core::iterative_accepted(
         shape,
         list,

@@ -24,7 +24,7 @@ fn round_on(shape: Shape, list: &[u16], middle: Kept, word: &mut [u8], levels: &
     let gamma = shape.gamma;
     let ceiling = 2 * (middle as u16);
     let mut bits = [0u8; 1023];
-    let mut kept = [0u8; 1023];
+    let mut kept: [Kept; 1023] = [0; 1023];
     let mut votes = [0u8; 1023];
     packed_word::unpack(word, n, &mut bits);
     iterative_levels::bias(levels, n, middle, &mut kept);
