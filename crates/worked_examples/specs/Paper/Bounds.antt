@@ -7,6 +7,7 @@
 --   all-bounds     == the definitions yield each row
 --   bound-rounds   == the rounds of the rule for codes A and C, b = 3 and one wrong bit; and for the README's block
 --   readmeSetting, readmeBlock   == b = 8, level step 0.1; the samples 10 and six of -1
+--   readmeCall limit             == the whole call on it, code A, the buffers just long enough
 --   ReadmeBlock limit            == with this limit the zero word is recovered from it
 -- proofs/Instances.antt proves the last for a limit of 43, by the rule: as many rounds are too many to be worked out.
 -- Bytes and floats are written by their bits. Assumes nothing.
@@ -84,10 +85,10 @@ readmeSetting limit = record { bits = 8; limit = limit; kind = 0; step = ofBits 
 unfoldable pub readmeBlock : List Float
 readmeBlock = seven 0x4120_0000 0xbf80_0000
 
+-- the buffers hold exactly the needed cells
 abbrev pub readmeCall : ℕ → Call
 readmeCall limit = decoding codeA (readmeSetting limit) readmeBlock (0xff ∷ []) (sevenLevels (pos 9) (pos 9))
 
--- the buffers hold exactly the needed cells
 abbrev pub ReadmeBlock : ℕ → Type 0
 ReadmeBlock limit =
     Recovered codeA (readmeSetting limit) (0 ∷ []) readmeBlock (0xff ∷ []) (made (readmeCall limit) .word) (made (readmeCall limit) .said)
