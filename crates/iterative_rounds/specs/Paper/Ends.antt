@@ -2,7 +2,7 @@
 --   stateAt H L s k    == the state after k rounds
 --   EndsAt             == what is known of the k and the state with which the list ends
 --   Promised           == what is known of an answer's outcome, rounds and failing checks
--- proofs/Ends.antt and proofs/Answers.antt have the promises. Assumes nothing.
+-- proofs/Ends.antt has that of the end, proofs/Answers.antt of `iterative` that of an answer. Assumes nothing.
 use mathlib.Core.Path.{_≡_}
 use mathlib.Core.Logic.{_⊎_}
 use Prim.Native.Nat.{ℕ, zero, suc, _≤_, _<_}
