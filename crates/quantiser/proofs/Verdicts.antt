@@ -30,9 +30,9 @@ use Rattle.answers.specs.Paper.Answers.{Verdict, accepted, refused, written}
 use Rattle.answers.proofs.Verdicts.{not-accepted}
 use Rattle.packed_word.specs.Paper.Packed.{bytesFor, pack}
 use Rattle.packed_word.proofs.Packed.{pack-cong}
-use Rattle.quantiser_levels.specs.Paper.Samples.{Setting, settingFits, levelsOf, hardBit, hardWord, notFinite, firstNotFinite, quantiseVerdict}
+use Rattle.quantiser_levels.specs.Paper.Samples.{Setting, settingFits, levelsOf, hardBit, hardWord, notFinite, firstNotFinite, tooShort, quantiseVerdict}
 use Rattle.quantiser.specs.Paper.PlainCall.{Acceptable}
-use Rattle.quantiser.specs.Buffers.{tooShort, Filled}
+use Rattle.quantiser.specs.Buffers.{Filled}
 use Rattle.quantiser.specs.Paper.Call.{Quantised}
 use Rattle.quantiser_settings.proofs.Ranges.{fits-reads, reads-fits, all-finite}
 

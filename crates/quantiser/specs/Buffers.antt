@@ -1,5 +1,4 @@
 -- What filling the lent buffers asks and does. Old buffers are ls, bs and w, new ones ls′, bs′ and w′.
---   tooShort n l b            == more than 1,023 samples, or levels or bytes too few for them
 --   Roomy xs ls bs            == the samples are finite, and each has its level and its cell
 --   Stored f b k ls ls′ ..    == the levels f and the bits b are written at the first k places, and the other cells stay
 --   FilledBy s xs ls ls′ ..   == the levels by the scale s and the hard bits of all samples are stored
@@ -7,23 +6,17 @@
 --   Filled S xs ls ls′ ..     == the levels are written over the old ones, and the hard bits one to a cell
 -- Assumes nothing.
 use mathlib.Core.Path.{_≡_}
-use mathlib.Core.Bool.{Bool, true, _||_}
+use mathlib.Core.Bool.{true}
 use mathlib.Core.List.{List}
 use Prim.Native.Nat.{ℕ, _*_, _^_, _≤_, _<_}
-use lib.Dec.{ltb}
 use lib.IntN.{ℤ}
 use lib.Ieee.{Float}
 use lib.ListN.{length}
 use Rattle.counting.specs.Paper.Lists.{listed, over}
 use Rattle.counting.specs.Places.{at}
-use Rattle.packed_word.specs.Paper.Packed.{bytesFor}
 use Rattle.quantiser_levels.specs.Paper.Samples.{Setting, settingFits, levelsOf, hardBit, firstNotFinite}
 use Rattle.quantiser_levels.specs.Scale.{levelAt}
 use Rattle.quantiser_levels.specs.declared.Scale.{Scale}
-
--- "For the quantiser alone: more than 1,023 samples or a shorter output"
-abbrev pub tooShort : ℕ → ℕ → ℕ → Bool
-tooShort n levels bytes = ltb 1023 n || (ltb levels n || ltb bytes (bytesFor n))
 
 pub record Roomy (xs : List Float) (ls : List ℤ) (bs : List ℕ) : Type 0 where
   pub each-finite : firstNotFinite xs ≡ length xs

@@ -14,10 +14,10 @@ use quantiser_settings::scale_of;
 pub use quantiser_settings::setting_fits;
 ghost use mathlib.Core.Path.{_≡_};
 ghost use Rattle.answers.specs.Paper.Enums.{verdictOf};
-ghost use Rattle.quantiser_levels.specs.Paper.Samples.{firstNotFinite};
+ghost use Rattle.quantiser_levels.specs.Paper.Samples.{firstNotFinite, tooShort};
 ghost use Rattle.quantiser_levels.specs.Scale.{Narrow};
 ghost use Rattle.quantiser_settings.specs.Paper.Settings.{settingOf};
-ghost use Rattle.quantiser.specs.Buffers.{tooShort, Roomy, FilledBy, Fillable, Filled};
+ghost use Rattle.quantiser.specs.Buffers.{Roomy, FilledBy, Fillable, Filled};
 ghost use Rattle.quantiser.specs.Paper.Call.{Quantised};
 
 // The place of the first sample that is not finite, or how many samples there are.

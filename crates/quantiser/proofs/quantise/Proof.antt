@@ -10,9 +10,8 @@ use lib.ListN.{length}
 use Rattle.counting.proofs.Searches.{first-le}
 use Rattle.answers.specs.Paper.Answers.{refused}
 use Rattle.packed_word.specs.Paper.Packed.{bytesFor}
-use Rattle.quantiser_levels.specs.Paper.Samples.{settingFits, notFinite, firstNotFinite}
+use Rattle.quantiser_levels.specs.Paper.Samples.{settingFits, notFinite, firstNotFinite, tooShort}
 use Rattle.quantiser_settings.specs.Paper.Settings.{settingOf}
-use Rattle.quantiser.specs.Buffers.{tooShort}
 use Rattle.quantiser.proofs.Buffers.{filled-bit}
 use Rattle.quantiser.proofs.Verdicts.{verdict-setting, verdict-buffer, verdict-sample, verdict-accepted, long-enough}
 use Rattle.quantiser.proofs.Verdicts.{quantised-refused, quantised-accepted}

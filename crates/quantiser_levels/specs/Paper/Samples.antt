@@ -14,6 +14,7 @@
 --   levelOf S x, hardOf x   == the level and the hard bit of x
 --   levelsOf S xs, hardBit xs, hardWord xs   == the levels, the hard bits, and these packed as a word
 --   notFinite xs j, firstNotFinite xs   == sample j is infinite or not a number; the first such place
+--   tooShort n l b       == refusal 7 of the quantiser alone: more than 1,023 samples, or levels or bytes too few for them
 --   quantiseVerdict      == what the quantiser alone asks
 -- Assumes nothing.
 use Prim.Native.Nat.{ℕ, min, _+_, _-_, _*_, _/_, _^_}
@@ -119,8 +120,12 @@ abbrev pub firstNotFinite : List Float → ℕ
 firstNotFinite xs = first (notFinite xs) (length xs)
 
 -- "For the quantiser alone: more than 1,023 samples or a shorter output"
+abbrev pub tooShort : ℕ → ℕ → ℕ → Bool
+tooShort n levels bytes = ltb 1023 n || (ltb levels n || ltb bytes (bytesFor n))
+
+-- what the quantiser alone asks: 6, 7, 8
 unfoldable pub quantiseVerdict : Setting → List Float → ℕ → ℕ → Verdict
 quantiseVerdict S xs levels bytes =
     refuseWhen 6 (not (settingFits S))
-    (refuseWhen 7 (ltb 1023 (length xs) || (ltb levels (length xs) || ltb bytes (bytesFor (length xs))))
+    (refuseWhen 7 (tooShort (length xs) levels bytes)
     (refuseAt 8 (firstNotFinite xs) (length xs) accepted))
