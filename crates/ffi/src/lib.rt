@@ -20,7 +20,7 @@ ghost use Rattle.session_asking.specs.Paper.Asked.{lent};
 ghost use Rattle.session.specs.Paper.Steps.{openOf, stepOf};
 ghost use Rattle.ffi_codes.specs.Codes.{codeOf};
 ghost use Rattle.ffi_codes.specs.Records.{recordIn};
-ghost use Rattle.ffi_codes.specs.Settings.{settingBy};
+ghost use Rattle.quantiser_settings.specs.Numbers.{settingBy};
 ghost use Rattle.ffi.specs.Calls.{QuantisedAs, DecodedAs, onRecord, CalledAs};
 
 // Refusal 7: what a call answers that is lent another number of cells than a record's.

@@ -11,7 +11,8 @@ use lib.Ieee.{Float, binary32, ofBits, ofFields, odd, le}
 use borrow.Author.Tests.{lt-leb}
 use Rattle.counting.proofs.Searches.{never}
 use Rattle.quantiser_levels.specs.Paper.Samples.{rangesFit, stepFits, settingFits}
-use Rattle.ffi_codes.specs.Settings.{settingBy, StandsFor}
+use Rattle.quantiser_settings.specs.Numbers.{settingBy}
+use Rattle.ffi_codes.specs.Settings.{StandsFor}
 
 -- a test that fails makes a conjunction fail
 and-none : (a : Bool) → (a && false) ≡ false

@@ -1,8 +1,8 @@
 -- An answer as one number of 64 bits.
---   codeOf s   == code + 2 ^ 32 × (rounds + 2 ^ 8 × (failing + 2 ^ 12 × changed)), code being the outcome,
---                 or refusal number × 65,536 + place
---   Small s    == rounds, failing and changed have room in it
---   Room r f c == so do these three numbers
+--   codeOf s          == code + 2 ^ 32 × (rounds + 2 ^ 8 × (failing + 2 ^ 12 × changed)), code being the outcome,
+--                        or refusal number × 65,536 + place
+--   Small s           == rounds, failing and changed have room in it
+--   FitFields r f c   == so do these three numbers
 -- Assumes nothing.
 use Prim.Native.Nat.{ℕ, _+_, _*_, _<_}
 use Rattle.answers.specs.Paper.Answers.{Said, refusal, report, count, acceptance}
@@ -13,13 +13,13 @@ codeOf (report o r f c) = o + 4294967296 * (r + 256 * (f + 4096 * c))
 codeOf (count k) = 4294967296 * (256 * k)
 codeOf acceptance = 0
 
-pub record Room (r f c : ℕ) : Type 0 where
+pub record FitFields (r f c : ℕ) : Type 0 where
   pub rounds : r < 256
   pub failing : f < 4096
   pub changed : c < 4096
 
 abbrev pub Small : Said → Type 0
 Small (refusal k x) = Unit {0}
-Small (report o r f c) = Room r f c
+Small (report o r f c) = FitFields r f c
 Small (count k) = k < 4096
 Small acceptance = Unit {0}

@@ -18,10 +18,11 @@ ghost use Rattle.answers.specs.Paper.Answers.{report, acceptance, after};
 ghost use Rattle.answers.specs.Paper.Enums.{numberOf, placeOf, reportOf, saidOf, verdictOf, countedOf};
 ghost use Rattle.counting.specs.Paper.Lists.{over};
 ghost use Rattle.quantiser_settings.specs.Paper.Settings.{settingOf};
+ghost use Rattle.quantiser_settings.specs.Numbers.{settingBy};
 ghost use Rattle.session_record.specs.Paper.Sessions.{recordOf};
 ghost use Rattle.ffi_codes.specs.Codes.{codeOf, Small};
 ghost use Rattle.ffi_codes.specs.Records.{recordCells, recordIn, cellsOf, writtenBy};
-ghost use Rattle.ffi_codes.specs.Settings.{settingBy, StandsFor};
+ghost use Rattle.ffi_codes.specs.Settings.{StandsFor};
 
 // A refusal: its number and its place.
 fn refusal_code(f: Refusal) -> u64

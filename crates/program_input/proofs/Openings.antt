@@ -61,12 +61,12 @@ module _ (H : Matrix) where
 differs : {S : Setting} {k x : ℕ} → openWith S ≡ refusedBy k x → ⊥
 differs e = let z : _≡_ {A = ℕ} 0 1 = cc in omega arith
 
-same-choice : {S T : Setting} → openWith T ≡ openWith S → T ≡ S
-same-choice e = cc
+same-setting : {S T : Setting} → openWith T ≡ openWith S → T ≡ S
+same-setting e = cc
 
 module _ (H : Matrix) (S T : Setting) where
   by-tests : (v : Verdict) → checkOf H ≡ v → (b : Bool) → settingFits S ≡ b → openWith T ≡ opening (andThen v (refuseWhen 6 (not b) accepted)) S → Decodable H T
-  by-tests accepted p true q e = record { matrix = accepted-is H p; setting = ap settingFits (same-choice e) ∙ q }
+  by-tests accepted p true q e = record { matrix = accepted-is H p; setting = ap settingFits (same-setting e) ∙ q }
   by-tests accepted p false q e = absurd (differs e)
   by-tests (refused k x) p b q e = absurd (differs e)
 

@@ -1,6 +1,5 @@
 -- Laws of the setting that stands in seven bytes, and of how a run begins by it.
---   settingBy                      == a setting by its width, its limit, its kind of step and its step
---   choice-is                      == the setting in the bytes, by its parts
+--   setting-is                     == the setting in the bytes, by its parts
 --   kind-unfit                     == a setting with a third kind of step is out of range
 --   float-unfit                    == a setting with a step that is not finite is out of range
 --   begins-refused, begins-ready   == a setting out of range is refused as 6, one in range begins the run
@@ -16,6 +15,7 @@ use lib.ListN.{getD}
 use borrow.Author.Tests.{lt-leb}
 use Rattle.counting.proofs.Searches.{never}
 use Rattle.quantiser_levels.specs.Paper.Samples.{Setting, rangesFit, stepFits, settingFits}
+use Rattle.quantiser_settings.specs.Numbers.{settingBy}
 use Rattle.byte_numbers.specs.Paper.Numbers.{float}
 use Rattle.program_input.specs.Paper.Input.{settingIn}
 use Rattle.program_input.specs.Paper.Opening.{refusedBy, openWith, opening, settingVerdict}
@@ -28,14 +28,10 @@ step-unfit (inf true) h = refl
 step-unfit (inf false) h = refl
 step-unfit (fin s m e) h = absurd (never h)
 
--- a setting by its width, its limit, its kind of step and its step
-abbrev pub settingBy : ℕ → ℕ → ℕ → Float → Setting
-settingBy b l k x = record { bits = b; limit = l; kind = k; step = x }
-
 -- the setting by its parts
-pub choice-is : (bs : List ℕ) {b l k : ℕ} {x : Float} → b ≡ getD bs 0 0 → l ≡ getD bs 1 0 → k ≡ getD bs 2 0 → x ≡ float bs 3 → settingBy b l k x ≡ settingIn bs
+pub setting-is : (bs : List ℕ) {b l k : ℕ} {x : Float} → b ≡ getD bs 0 0 → l ≡ getD bs 1 0 → k ≡ getD bs 2 0 → x ≡ float bs 3 → settingBy b l k x ≡ settingIn bs
 unfolding settingIn
-choice-is bs p q r s = rw (p, q, r, s)
+setting-is bs p q r s = rw (p, q, r, s)
 
 -- a conjunction fails where its last part does
 and-off : (a : Bool) {b : Bool} → b ≡ false → (a && b) ≡ false

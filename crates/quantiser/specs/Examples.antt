@@ -12,7 +12,7 @@ use mathlib.Core.List.{List, [], _∷_}
 use lib.IntN.{ℤ, pos, negsuc}
 use lib.Ieee.{binary32, ofBits, ofFields, odd, lt}
 use Rattle.quantiser_levels.specs.Paper.Samples.{nearestWhole, magnitude, levelOf, hardOf}
-use Rattle.quantiser_settings.specs.Examples.{settingBy}
+use Rattle.quantiser_settings.specs.Examples.{exampleSetting}
 
 pub record Given : Type 0 where
   pub bits : ℕ
@@ -31,7 +31,7 @@ pub record Row : Type 0 where
 unfoldable pub made : Given → Yields
 made g =
     record {
-      level = levelOf (settingBy (g .bits) (g .kind) (g .step)) (ofBits binary32 (g .sample));
+      level = levelOf (exampleSetting (g .bits) (g .kind) (g .step)) (ofBits binary32 (g .sample));
       hard = hardOf (ofBits binary32 (g .sample));
     }
 
@@ -69,5 +69,5 @@ table =
     ∷ []
 
 pub every-row : eachMade table ≡ eachWanted table
-unfolding table eachMade eachWanted made settingBy levelOf magnitude nearestWhole hardOf ofBits ofFields odd lt
+unfolding table eachMade eachWanted made exampleSetting levelOf magnitude nearestWhole hardOf ofBits ofFields odd lt
 every-row = refl

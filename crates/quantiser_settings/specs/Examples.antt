@@ -1,6 +1,6 @@
 -- Document 01's examples of widths.
---   settingBy b kind d       == a setting with the round limit 5, its step as the bit pattern of a single-format float
---   widths, every-width   == the widths around the range, and whether a setting may have them
+--   exampleSetting b kind d   == a setting with the round limit 5, its step as the bit pattern of a single-format float
+--   widths, every-width       == the widths around the range, and whether a setting may have them
 -- Assumes nothing.
 use Prim.Native.Nat.{ℕ}
 use mathlib.Core.Path.{_≡_, refl}
@@ -10,16 +10,16 @@ use lib.Ieee.{binary32, ofBits, ofFields, odd, le}
 use Rattle.quantiser_levels.specs.Paper.Samples.{Setting, stepFits, settingFits}
 
 -- a setting with the round limit 5
-unfoldable pub settingBy : ℕ → ℕ → ℕ → Setting
-settingBy bits kind step = record { bits = bits; limit = 5; kind = kind; step = ofBits binary32 step }
+unfoldable pub exampleSetting : ℕ → ℕ → ℕ → Setting
+exampleSetting bits kind step = record { bits = bits; limit = 5; kind = kind; step = ofBits binary32 step }
 
 -- "b = 8 passes, 9 is refusal 6", and so at the other end
 unfoldable pub widths : List Bool
 widths = fits 1 ∷ fits 2 ∷ fits 8 ∷ fits 9 ∷ []
   where
     fits : ℕ → Bool
-    fits b = settingFits (settingBy b 0 0x3f00_0000)
+    fits b = settingFits (exampleSetting b 0 0x3f00_0000)
 
 pub every-width : widths ≡ false ∷ true ∷ true ∷ false ∷ []
-unfolding widths settingBy settingFits stepFits ofBits ofFields odd le
+unfolding widths exampleSetting settingFits stepFits ofBits ofFields odd le
 every-width = refl

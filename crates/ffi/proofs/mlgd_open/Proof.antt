@@ -14,7 +14,7 @@ use Rattle.ffi_codes.specs.Codes.{Small}
 use Rattle.ffi_codes.specs.Records.{recordIn}
 use Rattle.quantiser_levels.specs.Paper.Samples.{Setting}
 use Rattle.quantiser_settings.specs.Paper.Settings.{settingOf}
-use Rattle.ffi_codes.specs.Settings.{settingBy}
+use Rattle.quantiser_settings.specs.Numbers.{settingBy}
 use Rattle.ffi.proofs.Sessions.{open-small, open-alike, called, on-record, no-record}
 use borrow.Author.Needs.{needs}
 use Rattle.ffi.proofs.mlgd_open.Statement.{statement}

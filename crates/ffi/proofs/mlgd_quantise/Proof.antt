@@ -4,7 +4,7 @@ use Rattle.answers.specs.Paper.Answers.{Verdict, after, acceptance}
 use Rattle.answers.specs.Paper.Enums.{verdictOf}
 use Rattle.quantiser_settings.specs.Paper.Settings.{settingOf}
 use Rattle.ffi_codes.specs.Codes.{codeOf}
-use Rattle.ffi_codes.specs.Settings.{settingBy}
+use Rattle.quantiser_settings.specs.Numbers.{settingBy}
 use Rattle.ffi.proofs.Alike.{quantise-alike}
 use borrow.Author.Needs.{needs}
 use Rattle.ffi.proofs.mlgd_quantise.Statement.{statement}

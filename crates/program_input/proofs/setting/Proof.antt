@@ -13,7 +13,8 @@ use Rattle.byte_numbers.specs.Paper.Numbers.{float}
 use Rattle.byte_numbers.proofs.Patterns.{no-nan}
 use Rattle.program_input.specs.Paper.Input.{settingIn}
 use Rattle.program_input.specs.Paper.Opening.{openWith}
-use Rattle.program_input.proofs.Settings.{settingBy, choice-is, kind-unfit, float-unfit, begins-refused, begins-ready}
+use Rattle.quantiser_settings.specs.Numbers.{settingBy}
+use Rattle.program_input.proofs.Settings.{setting-is, kind-unfit, float-unfit, begins-refused, begins-ready}
 use Rattle.program_input.proofs.setting.Statement.{statement}
 use Rattle.program_input.proofs.setting.Tie as tie
 
@@ -73,7 +74,7 @@ returns-3 c =
     let k = f .before .step-by in
     let e : settingBy (f .before .before .before .before .wide .result) (f .before .before .wide2 .result) (kindOf (k .result))
     (floatOf (k .result)) ≡ settingIn bs =
-    choice-is bs (f .before .before .before .before .wide .ensures .0) (f .before .before .wide2 .ensures .0) (k .ensures .0)
+    setting-is bs (f .before .before .before .before .wide .ensures .0) (f .before .before .wide2 .ensures .0) (k .ensures .0)
     (k .ensures .1 ∙ ap (ofBits binary32) (n .number32 .ensures)) in
     ap openWith e ∙ begins-ready (settingIn bs) (sym (ap settingFits e) ∙ sym (f .setting-fits .ensures) ∙ c .if3 .taken)
 
@@ -86,7 +87,7 @@ returns-4 c =
     let k = f .before .step-by in
     let e : settingBy (f .before .before .before .before .wide .result) (f .before .before .wide2 .result) (kindOf (k .result))
     (floatOf (k .result)) ≡ settingIn bs =
-    choice-is bs (f .before .before .before .before .wide .ensures .0) (f .before .before .wide2 .ensures .0) (k .ensures .0)
+    setting-is bs (f .before .before .before .before .wide .ensures .0) (f .before .before .wide2 .ensures .0) (k .ensures .0)
     (k .ensures .1 ∙ ap (ofBits binary32) (n .number32 .ensures)) in
     begins-refused (settingIn bs) (sym (ap settingFits e) ∙ sym (f .setting-fits .ensures) ∙ c .if3 .left)
 
