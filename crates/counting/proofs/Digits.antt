@@ -11,16 +11,16 @@ use native.Mathlib.Decide.{decLt}
 use native.Mathlib.Omega.{arith}
 use lib.Pow.{pow-pos, pow-lt, pow-add}
 use lib.Bits.{bitAnd, bitOr, bitXor, and-shr, and-mod, or-shr, or-mod, or-zero-r, xor-shr, xor-mod}
-use Rattle.counting.specs.Digits.{digit}
+use Rattle.counting.specs.Digits.{binaryDigit}
 
 -- a digit of `&`, `|` and `^` is that of the two digits
-pub digit-and : (a b k : ℕ) → digit (bitAnd a b) k ≡ bitAnd (digit a k) (digit b k)
+pub digit-and : (a b k : ℕ) → binaryDigit (bitAnd a b) k ≡ bitAnd (binaryDigit a k) (binaryDigit b k)
 digit-and a b k = ap (λ (x : ℕ). x % 2) (and-shr a b k) ∙ and-mod (a / 2 ^ k) (b / 2 ^ k) 1
 
-pub digit-or : (a b k : ℕ) → digit (bitOr a b) k ≡ bitOr (digit a k) (digit b k)
+pub digit-or : (a b k : ℕ) → binaryDigit (bitOr a b) k ≡ bitOr (binaryDigit a k) (binaryDigit b k)
 digit-or a b k = ap (λ (x : ℕ). x % 2) (or-shr a b k) ∙ or-mod (a / 2 ^ k) (b / 2 ^ k) 1
 
-pub digit-xor : (a b k : ℕ) → digit (bitXor a b) k ≡ bitXor (digit a k) (digit b k)
+pub digit-xor : (a b k : ℕ) → binaryDigit (bitXor a b) k ≡ bitXor (binaryDigit a k) (binaryDigit b k)
 digit-xor a b k = ap (λ (x : ℕ). x % 2) (xor-shr a b k) ∙ xor-mod (a / 2 ^ k) (b / 2 ^ k) 1
 
 -- a digit that is set stays set
@@ -32,26 +32,26 @@ or-one (suc (suc x)) h = absurd (omega arith)
 -- ---- the only digit of 2 ^ k
 
 -- digit k of 2 ^ k is 1, and no other is
-pub one-here : (k : ℕ) → digit (2 ^ k) k ≡ 1
+pub one-here : (k : ℕ) → binaryDigit (2 ^ k) k ≡ 1
 one-here k = ap (λ (x : ℕ). x % 2) (div-self (pow-pos k))
 
-one-above : (d l : ℕ) → digit (2 ^ (d + 1 + l)) l ≡ 0
+one-above : (d l : ℕ) → binaryDigit (2 ^ (d + 1 + l)) l ≡ 0
 one-above d l =
     ap (λ (x : ℕ). x / 2 ^ l % 2) (pow-add 2 (d + 1) l) ∙ ap (λ (x : ℕ). x % 2) (mul-div-cancel (2 ^ (d + 1)) (pow-pos l))
     ∙ ap (λ (x : ℕ). x % 2) (pow-add 2 d 1) ∙ mul-mod-left (2 ^ d) 2
 
-pub one-there : (k l : ℕ) → (l ≡ k → ⊥) → digit (2 ^ k) l ≡ 0
+pub one-there : (k l : ℕ) → (l ≡ k → ⊥) → binaryDigit (2 ^ k) l ≡ 0
 one-there k l h =
     elim (decLt l k) [
       | yes a ↦
           let e : k ≡ k - (l + 1) + 1 + l = omega arith in
-          ap (λ (x : ℕ). digit (2 ^ x) l) e ∙ one-above (k - (l + 1)) l
+          ap (λ (x : ℕ). binaryDigit (2 ^ x) l) e ∙ one-above (k - (l + 1)) l
       | no n ↦ ap (λ (x : ℕ). x % 2) (div-eq-of-lt (pow-lt {i = k} {j = l} (omega arith)))
     ]
 
 -- `|` with 2 ^ k sets digit k and leaves the others
-pub or-here : (b k : ℕ) → digit (bitOr b (2 ^ k)) k ≡ 1
-or-here b k = digit-or b (2 ^ k) k ∙ ap (bitOr (digit b k)) (one-here k) ∙ or-one (digit b k) (omega arith)
+pub or-here : (b k : ℕ) → binaryDigit (bitOr b (2 ^ k)) k ≡ 1
+or-here b k = digit-or b (2 ^ k) k ∙ ap (bitOr (binaryDigit b k)) (one-here k) ∙ or-one (binaryDigit b k) (omega arith)
 
-pub or-there : (b k l : ℕ) → (l ≡ k → ⊥) → digit (bitOr b (2 ^ k)) l ≡ digit b l
-or-there b k l h = digit-or b (2 ^ k) l ∙ ap (bitOr (digit b l)) (one-there k l h) ∙ or-zero-r (digit b l)
+pub or-there : (b k l : ℕ) → (l ≡ k → ⊥) → binaryDigit (bitOr b (2 ^ k)) l ≡ binaryDigit b l
+or-there b k l h = digit-or b (2 ^ k) l ∙ ap (bitOr (binaryDigit b l)) (one-there k l h) ∙ or-zero-r (binaryDigit b l)

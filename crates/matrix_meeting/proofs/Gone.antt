@@ -1,4 +1,5 @@
 -- Laws of words that are met one after the other, and of the rows that are met in them.
+--   Both          == two of the words f 0 .. f (k - 1) have a bit
 --   Gone          == the words f 0 .. f (k - 1): met has their bits, and as met twice exactly those that two of them have
 --   gone-none     == no word is looked at yet
 --   gone-more     == one word more is looked at
@@ -18,7 +19,7 @@ use borrow.Author.Tests.{ne-eqb}
 use lib.Bits.{bitAnd, bitOr}
 use lib.Dec.{eqb}
 use lib.ListN.{getD}
-use Rattle.counting.specs.Digits.{digit}
+use Rattle.counting.specs.Digits.{binaryDigit}
 use Rattle.counting.proofs.Searches.{never}
 use Rattle.matrix.specs.Paper.Code.{Matrix, entry}
 use Rattle.matrix_meeting.specs.Marks.{MarksHeld, bitFor, Meets, MetOnce, SaysTwice}
@@ -31,15 +32,15 @@ pub record Both (f : ℕ → ℕ) (k b : ℕ) : Type 0 where
   pub other : ℕ
   pub later : one < other
   pub inside : other < k
-  pub in-one : digit (f one) b ≡ 1
-  pub in-other : digit (f other) b ≡ 1
+  pub in-one : binaryDigit (f one) b ≡ 1
+  pub in-other : binaryDigit (f other) b ≡ 1
 
 -- the words f 0 .. f (k - 1): met has their bits, and as met twice exactly those that two of them have
 pub record Gone (f : ℕ → ℕ) (k : ℕ) (met : Met) : Type 0 where
-  pub all : (q : ℕ) → q < k → (b : ℕ) → digit (f q) b ≡ 1 → digit (met .once) b ≡ 1
-  pub some : (b : ℕ) → digit (met .once) b ≡ 1 → (q : ℕ) × (q < k) × (digit (f q) b ≡ 1)
+  pub all : (q : ℕ) → q < k → (b : ℕ) → binaryDigit (f q) b ≡ 1 → binaryDigit (met .once) b ≡ 1
+  pub some : (b : ℕ) → binaryDigit (met .once) b ≡ 1 → (q : ℕ) × (q < k) × (binaryDigit (f q) b ≡ 1)
   pub apart : met .twice ≡ 0 → (b : ℕ) → Both f k b → ⊥
-  pub again : (b : ℕ) → digit (met .twice) b ≡ 1 → Both f k b
+  pub again : (b : ℕ) → binaryDigit (met .twice) b ≡ 1 → Both f k b
 
 module _ (f : ℕ → ℕ) where
   -- no word is looked at yet
@@ -52,14 +53,14 @@ module _ (f : ℕ → ℕ) where
         again = λ b d. absurd (nothing b d);
       }
     where
-      nothing : (b : ℕ) → digit 0 b ≡ 1 → ⊥
+      nothing : (b : ℕ) → binaryDigit 0 b ≡ 1 → ⊥
       nothing b d = omega (arith, zero-div (2 ^ b))
 
   -- one word more is looked at
   pub gone-more : {k x : ℕ} {met met′ : Met} → Gone f k met → x ≡ f k → Meets met x met′ → Gone f (k + 1) met′
   gone-more {k} {x} {met} {met′} g e m =
       record {
-        all = below-more (λ (q : ℕ). (b : ℕ) → digit (f q) b ≡ 1 → digit (met′ .once) b ≡ 1) k
+        all = below-more (λ (q : ℕ). (b : ℕ) → binaryDigit (f q) b ≡ 1 → binaryDigit (met′ .once) b ≡ 1) k
             (λ q l b d. rw (m .all) (or-left (met .once) x b (g .all q l b d))) (λ b d. rw (m .all) (or-right (met .once) x b (rw e d)));
         some = λ b d.
             elim (or-digit (met .once) x b (rw (m .all) at d))
@@ -112,20 +113,20 @@ four P a b c d (suc (suc (suc zero))) h = d
 four P a b c d (suc (suc (suc (suc v)))) h = absurd (omega arith)
 
 -- the bit for column c and row r stands in one of the column's four words
-in-word : (w : List ℕ) (c r : ℕ) → MarksHeld w (bitFor c r) → digit (getD w (c * 4 + r % 256 / 64) 0) (r % 64) ≡ 1
+in-word : (w : List ℕ) (c r : ℕ) → MarksHeld w (bitFor c r) → binaryDigit (getD w (c * 4 + r % 256 / 64) 0) (r % 64) ≡ 1
 unfolding MarksHeld
 in-word w c r e =
     let word : c * 4 + r % 256 / 64 ≡ bitFor c r / 64 = omega arith in
     let place : r % 64 ≡ bitFor c r % 64 = omega arith in
-    ap₂ (λ (x y : ℕ). digit (getD w x 0) y) word place ∙ e
+    ap₂ (λ (x y : ℕ). binaryDigit (getD w x 0) y) word place ∙ e
 
 -- and each bit of these words is one for the column and some row
-of-word : (w : List ℕ) (c v b : ℕ) → v < 4 → b < 64 → digit (getD w (c * 4 + v) 0) b ≡ 1 → MarksHeld w (bitFor c (v * 64 + b))
+of-word : (w : List ℕ) (c v b : ℕ) → v < 4 → b < 64 → binaryDigit (getD w (c * 4 + v) 0) b ≡ 1 → MarksHeld w (bitFor c (v * 64 + b))
 unfolding MarksHeld
 of-word w c v b h l e =
     let word : bitFor c (v * 64 + b) / 64 ≡ c * 4 + v = omega arith in
     let place : bitFor c (v * 64 + b) % 64 ≡ b = omega arith in
-    ap₂ (λ (x y : ℕ). digit (getD w x 0) y) word place ∙ e
+    ap₂ (λ (x y : ℕ). binaryDigit (getD w x 0) y) word place ∙ e
 
 -- word v of the k-th column of row i
 abbrev pub wordAt : Matrix → ℕ → List ℕ → ℕ → ℕ → ℕ

@@ -24,7 +24,7 @@ use native.Mathlib.Omega.{arith}
 use lib.Bits.{bitAnd, bitOr, and-le-l, and-le-r, or-comm, or-zero-l, or-add-and}
 use lib.ListN.{length, getD, set, replicate, length-set}
 use lib.Pow.{shl-exact, shr-shr}
-use Rattle.counting.specs.Digits.{digit}
+use Rattle.counting.specs.Digits.{binaryDigit}
 use Rattle.counting.proofs.Digits.{digit-and, digit-or, or-one, or-here, or-there}
 use Rattle.counting.proofs.Writes.{stored, zeros}
 use Rattle.matrix_meeting.specs.Marks.{MarksHeld, Unmarked, marked}
@@ -32,33 +32,33 @@ use Rattle.matrix_meeting.specs.Marks.{MarksHeld, Unmarked, marked}
 -- ---- binary digits
 
 -- a digit of either part is one of the whole
-pub or-right : (a b k : ℕ) → digit b k ≡ 1 → digit (bitOr a b) k ≡ 1
-or-right a b k e = digit-or a b k ∙ ap (bitOr (digit a k)) e ∙ or-one (digit a k) (omega arith)
+pub or-right : (a b k : ℕ) → binaryDigit b k ≡ 1 → binaryDigit (bitOr a b) k ≡ 1
+or-right a b k e = digit-or a b k ∙ ap (bitOr (binaryDigit a k)) e ∙ or-one (binaryDigit a k) (omega arith)
 
-pub or-left : (a b k : ℕ) → digit a k ≡ 1 → digit (bitOr a b) k ≡ 1
-or-left a b k e = ap (λ (x : ℕ). digit x k) (or-comm a b) ∙ or-right b a k e
+pub or-left : (a b k : ℕ) → binaryDigit a k ≡ 1 → binaryDigit (bitOr a b) k ≡ 1
+or-left a b k e = ap (λ (x : ℕ). binaryDigit x k) (or-comm a b) ∙ or-right b a k e
 
 -- and a digit of the whole is one of a part
-pub or-digit : (a b k : ℕ) → digit (bitOr a b) k ≡ 1 → (digit a k ≡ 1) ⊎ (digit b k ≡ 1)
+pub or-digit : (a b k : ℕ) → binaryDigit (bitOr a b) k ≡ 1 → (binaryDigit a k ≡ 1) ⊎ (binaryDigit b k ≡ 1)
 or-digit a b k e =
-    elim (ℕ-discrete (digit a k) 1) [
+    elim (ℕ-discrete (binaryDigit a k) 1) [
       | yes one ↦ inl one
       | no ne ↦
-          let z : digit a k ≡ 0 = omega arith in
-          inr (sym (or-zero-l (digit b k)) ∙ ap (λ (x : ℕ). bitOr x (digit b k)) (sym z) ∙ sym (digit-or a b k) ∙ e)
+          let z : binaryDigit a k ≡ 0 = omega arith in
+          inr (sym (or-zero-l (binaryDigit b k)) ∙ ap (λ (x : ℕ). bitOr x (binaryDigit b k)) (sym z) ∙ sym (digit-or a b k) ∙ e)
     ]
 
 -- numbers without a common digit
-pub and-none : (a b k : ℕ) → bitAnd a b ≡ 0 → digit a k ≡ 1 → digit b k ≡ 1 → ⊥
+pub and-none : (a b k : ℕ) → bitAnd a b ≡ 0 → binaryDigit a k ≡ 1 → binaryDigit b k ≡ 1 → ⊥
 and-none a b k e p q =
-    let one : digit (bitAnd a b) k ≡ 1 = digit-and a b k ∙ ap₂ bitAnd p q in
-    omega (arith, sym one ∙ ap (λ (x : ℕ). digit x k) e, zero-div (2 ^ k))
+    let one : binaryDigit (bitAnd a b) k ≡ 1 = digit-and a b k ∙ ap₂ bitAnd p q in
+    omega (arith, sym one ∙ ap (λ (x : ℕ). binaryDigit x k) e, zero-div (2 ^ k))
 
 -- a common digit
-pub and-digit : (a b k : ℕ) → digit (bitAnd a b) k ≡ 1 → (digit a k ≡ 1) × (digit b k ≡ 1)
+pub and-digit : (a b k : ℕ) → binaryDigit (bitAnd a b) k ≡ 1 → (binaryDigit a k ≡ 1) × (binaryDigit b k ≡ 1)
 and-digit a b k e =
-    let both : bitAnd (digit a k) (digit b k) ≡ 1 = sym (digit-and a b k) ∙ e in
-    (omega (arith, and-le-l (digit a k) (digit b k)), omega (arith, and-le-r (digit a k) (digit b k)))
+    let both : bitAnd (binaryDigit a k) (binaryDigit b k) ≡ 1 = sym (digit-and a b k) ∙ e in
+    (omega (arith, and-le-l (binaryDigit a k) (binaryDigit b k)), omega (arith, and-le-r (binaryDigit a k) (binaryDigit b k)))
 
 -- numbers of which `|` is 0 are 0
 pub or-none : (a b : ℕ) → bitOr a b ≡ 0 → (a ≡ 0) × (b ≡ 0)
@@ -66,7 +66,7 @@ or-none a b e =
     (omega (arith, or-add-and a b, and-le-r a b), omega (arith, or-add-and a b, and-le-l a b))
 
 -- a number below 2 ^ k without a digit set below place k is 0
-pub digit-none : (k a : ℕ) → a < 2 ^ k → ((b : ℕ) → b < k → digit a b ≡ 1 → ⊥) → a ≡ 0
+pub digit-none : (k a : ℕ) → a < 2 ^ k → ((b : ℕ) → b < k → binaryDigit a b ≡ 1 → ⊥) → a ≡ 0
 digit-none zero a h none = omega arith
 digit-none (suc k) a h none =
     let low : a / 1 % 2 ≡ 1 → ⊥ = none 0 (omega arith) in
@@ -74,7 +74,7 @@ digit-none (suc k) a h none =
     digit-none k (a / 2) (omega arith) (λ b l e. none (suc b) (omega arith) (next b ∙ e)) in
     elim (ℕ-discrete (a / 1 % 2) 1) [ yes e ↦ absurd (low e) | no ne ↦ omega arith ]
   where
-    next : (b : ℕ) → digit a (suc b) ≡ digit (a / 2) b
+    next : (b : ℕ) → binaryDigit a (suc b) ≡ binaryDigit (a / 2) b
     next b =
         let e : suc b ≡ 1 + b = omega arith in
         ap (λ (x : ℕ). a / 2 ^ x % 2) e ∙ ap (λ (x : ℕ). x % 2) (sym (shr-shr a 1 b))
@@ -109,16 +109,16 @@ module _ (x : ℕ) (w : List ℕ) where
     -- the bit that is set is set
     pub marked-here : MarksHeld (marked x w) x
     unfolding MarksHeld
-    marked-here = ap (λ (v : ℕ). digit v (x % 64)) (word-marked x refl) ∙ or-here (getD w (x / 64) 0) (x % 64)
+    marked-here = ap (λ (v : ℕ). binaryDigit v (x % 64)) (word-marked x refl) ∙ or-here (getD w (x / 64) 0) (x % 64)
 
     -- any other bit is as it was
-    other : (y : ℕ) → (y ≡ x → ⊥) → digit (getD (marked x w) (y / 64) 0) (y % 64) ≡ digit (getD w (y / 64) 0) (y % 64)
+    other : (y : ℕ) → (y ≡ x → ⊥) → binaryDigit (getD (marked x w) (y / 64) 0) (y % 64) ≡ binaryDigit (getD w (y / 64) 0) (y % 64)
     other y ne =
         elim (ℕ-discrete (y / 64) (x / 64)) [
           | yes s ↦
               let apart : y % 64 ≡ x % 64 → ⊥ = λ e. ne (omega arith) in
-              ap (λ (v : ℕ). digit v (y % 64)) (word-marked y s) ∙ or-there (getD w (y / 64) 0) (x % 64) (y % 64) apart
-          | no f ↦ ap (λ (v : ℕ). digit v (y % 64)) (word-kept y f)
+              ap (λ (v : ℕ). binaryDigit v (y % 64)) (word-marked y s) ∙ or-there (getD w (y / 64) 0) (x % 64) (y % 64) apart
+          | no f ↦ ap (λ (v : ℕ). binaryDigit v (y % 64)) (word-kept y f)
         ]
 
     -- so is each bit that was
@@ -139,7 +139,7 @@ unmarked-zeros k p = zeros k p
 -- words that are all 0 have no bit set
 pub unmarked-none : (w : List ℕ) → Unmarked w → (x : ℕ) → MarksHeld w x → ⊥
 unfolding MarksHeld Unmarked
-unmarked-none w z x h = omega (arith, sym h ∙ ap (λ (v : ℕ). digit v (x % 64)) (z (x / 64)), zero-div (2 ^ (x % 64)))
+unmarked-none w z x h = omega (arith, sym h ∙ ap (λ (v : ℕ). binaryDigit v (x % 64)) (z (x / 64)), zero-div (2 ^ (x % 64)))
 
 -- 1 shifted to a place below 64 is the power of two
 pub shifted : (a k j : ℕ) → a ≡ 1 → k ≡ j → k < 64 → (a * 2 ^ k) % 18446744073709551616 ≡ 2 ^ j

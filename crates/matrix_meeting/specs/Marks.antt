@@ -18,13 +18,13 @@ use Prim.Native.Nat.{ℕ, zero, suc, _+_, _*_, _/_, _%_, _^_, _<_}
 use lib.Bits.{bitAnd, bitOr}
 use lib.Dec.{eqb}
 use lib.ListN.{getD, set}
-use Rattle.counting.specs.Digits.{digit}
+use Rattle.counting.specs.Digits.{binaryDigit}
 use Rattle.matrix.specs.Paper.Code.{Matrix, entry}
 use Rattle.matrix_meeting.specs.declared.Met.{Met}
 
 -- bit x of the words is set
 unfoldable pub MarksHeld : List ℕ → ℕ → Type 0
-MarksHeld w x = digit (getD w (x / 64) 0) (x % 64) ≡ 1
+MarksHeld w x = binaryDigit (getD w (x / 64) 0) (x % 64) ≡ 1
 
 -- every word is 0
 unfoldable pub Unmarked : List ℕ → Type 0

@@ -18,7 +18,7 @@ use Rattle.counting.specs.Paper.Sum.{sumBelow, unequal}
 use Rattle.counting.proofs.Sums.{sum-cong, sum-append, sum-bound, differ-le}
 use Rattle.packed_word.specs.Paper.Packed.{bitAt, distance}
 use Rattle.packed_word.specs.Steps.{apart}
-use Rattle.counting.specs.Digits.{digit}
+use Rattle.counting.specs.Digits.{binaryDigit}
 use Rattle.counting.proofs.Digits.{digit-xor}
 use Rattle.packed_word.proofs.Packed.{bit-of}
 
@@ -33,8 +33,8 @@ xor-differ (suc zero) (suc (suc y)) h l = absurd (omega arith)
 xor-differ (suc (suc x)) y h l = absurd (omega arith)
 
 -- digit k of the exclusive or says whether the digits differ
-xor-apart : (x y k : ℕ) → digit (bitXor x y) k ≡ unequal (digit x k) (digit y k)
-xor-apart x y k = digit-xor x y k ∙ xor-differ (digit x k) (digit y k) (omega arith) (omega arith)
+xor-apart : (x y k : ℕ) → binaryDigit (bitXor x y) k ≡ unequal (binaryDigit x k) (binaryDigit y k)
+xor-apart x y k = digit-xor x y k ∙ xor-differ (binaryDigit x k) (binaryDigit y k) (omega arith) (omega arith)
 
 -- ---- the set digits of a byte
 
@@ -42,15 +42,15 @@ chain : (o d : ℕ → ℕ) → ((k : ℕ) → o k ≡ d k + o (suc k)) → o 8 
 unfolding sumBelow
 chain o d h e = omega (arith, h 0, h 1, h 2, h 3, h 4, h 5, h 6, h 7)
 
-ones-shifted : (v k : ℕ) → ones (v / 2 ^ k) ≡ digit v k + ones (v / 2 ^ suc k)
+ones-shifted : (v k : ℕ) → ones (v / 2 ^ k) ≡ binaryDigit v k + ones (v / 2 ^ suc k)
 ones-shifted v k =
-    ones-step (v / 2 ^ k) ∙ ap (λ (x : ℕ). digit v k + ones x) (shr-shr v k 1 ∙ ap (λ (x : ℕ). v / 2 ^ x) (add-one k))
+    ones-step (v / 2 ^ k) ∙ ap (λ (x : ℕ). binaryDigit v k + ones x) (shr-shr v k 1 ∙ ap (λ (x : ℕ). v / 2 ^ x) (add-one k))
 
-ones-byte : (v : ℕ) → v < 256 → ones v ≡ sumBelow 8 (λ i. digit v (7 - i))
+ones-byte : (v : ℕ) → v < 256 → ones v ≡ sumBelow 8 (λ i. binaryDigit v (7 - i))
 unfolding ones
 ones-byte v h =
     let e : v / 1 ≡ v = omega arith in
-    ap ones (sym e) ∙ chain (λ k. ones (v / 2 ^ k)) (digit v) (ones-shifted v) (ap ones (div-eq-of-lt h))
+    ap ones (sym e) ∙ chain (λ k. ones (v / 2 ^ k)) (binaryDigit v) (ones-shifted v) (ap ones (div-eq-of-lt h))
 
 -- the set digits of the exclusive or are the places at which the bytes differ
 pub ones-apart : (x y : ℕ) → x < 256 → y < 256 → ones (bitXor x y) ≡ apart x y
@@ -60,7 +60,9 @@ ones-apart x y h l = ones-byte (bitXor x y) (xor-lt 8 x y h l) ∙ sum-cong 8 (�
 -- two bytes differ at 8 places at most
 pub apart-few : (r x y : ℕ) → r ≡ apart x y → r ≤ 8
 unfolding apart
-apart-few r x y e = omega (arith, sum-bound 8 1 {f = λ i. unequal (digit x (7 - i)) (digit y (7 - i))} (λ i l. differ-le (digit x (7 - i)) (digit y (7 - i))))
+apart-few r x y e =
+    let differs : ℕ → ℕ = λ i. unequal (binaryDigit x (7 - i)) (binaryDigit y (7 - i)) in
+    omega (arith, sum-bound 8 1 {f = differs} (λ i l. differ-le (binaryDigit x (7 - i)) (binaryDigit y (7 - i))))
 
 -- ---- words, byte by byte
 

@@ -11,7 +11,7 @@ use native.Mathlib.Nat.{div-eq-of-lt}
 use native.Mathlib.Omega.{arith}
 use lib.Pow.{shr-shr}
 use native.Mathlib.Numerals.{add-one}
-use Rattle.counting.specs.Digits.{digit}
+use Rattle.counting.specs.Digits.{binaryDigit}
 use Rattle.counting.specs.Paper.Sum.{sumBelow}
 
 -- the byte with bits f 0 .. f 7, the highest first
@@ -48,7 +48,7 @@ module _ (f : ℕ → ℕ) (bits : (i : ℕ) → i < 8 → f i < 2) where
       )
 
   -- the bits of the byte made of bits
-  pub digit-byte : (i : ℕ) → i < 8 → digit (byte f) (7 - i) ≡ f i
+  pub digit-byte : (i : ℕ) → i < 8 → binaryDigit (byte f) (7 - i) ≡ f i
   unfolding sumBelow
   digit-byte =
       let b0 : f 0 < 2 = bits 0 (omega arith) in
@@ -59,7 +59,7 @@ module _ (f : ℕ → ℕ) (bits : (i : ℕ) → i < 8 → f i < 2) where
       let b5 : f 5 < 2 = bits 5 (omega arith) in
       let b6 : f 6 < 2 = bits 6 (omega arith) in
       let b7 : f 7 < 2 = bits 7 (omega arith) in
-      each-place (λ i. digit (byte f) (7 - i) ≡ f i)
+      each-place (λ i. binaryDigit (byte f) (7 - i) ≡ f i)
       (omega arith) (omega arith) (omega arith) (omega arith) (omega arith) (omega arith) (omega arith) (omega arith)
 
 -- a number by its halves: each is twice the next, and one digit
@@ -67,11 +67,11 @@ halves : (a d : ℕ → ℕ) → ((k : ℕ) → a k ≡ 2 * a (suc k) + d k) →
 unfolding sumBelow
 halves a d h e = omega (arith, h 0, h 1, h 2, h 3, h 4, h 5, h 6, h 7)
 
-half : (v k : ℕ) → v / 2 ^ k ≡ 2 * (v / 2 ^ suc k) + digit v k
+half : (v k : ℕ) → v / 2 ^ k ≡ 2 * (v / 2 ^ suc k) + binaryDigit v k
 half v k =
     let e : v / 2 ^ k / 2 ≡ v / 2 ^ suc k = shr-shr v k 1 ∙ ap (λ (x : ℕ). v / 2 ^ x) (add-one k) in
     omega arith
 
 -- the byte made of a byte's bits
-pub byte-digit : (v : ℕ) → v < 256 → byte (λ i. digit v (7 - i)) ≡ v
-byte-digit v h = halves (λ k. v / 2 ^ k) (digit v) (half v) (div-eq-of-lt h) ∙ omega arith
+pub byte-digit : (v : ℕ) → v < 256 → byte (λ i. binaryDigit v (7 - i)) ≡ v
+byte-digit v h = halves (λ k. v / 2 ^ k) (binaryDigit v) (half v) (div-eq-of-lt h) ∙ omega arith

@@ -9,7 +9,7 @@ use native.Mathlib.Nat.{one-mul}
 use native.Mathlib.Omega.{arith}
 use lib.Pow.{shl-exact}
 use lib.Bits.{bitOr, bitXor, xor-zero-r, or-shifted}
-use Rattle.counting.specs.Digits.{digit}
+use Rattle.counting.specs.Digits.{binaryDigit}
 use Rattle.counting.proofs.Digits.{digit-xor, one-here, one-there}
 
 -- ---- one digit turned over
@@ -20,11 +20,11 @@ xor-one (suc zero) h = refl
 xor-one (suc (suc x)) h = absurd (omega arith)
 
 -- `^` with 2 ^ k turns digit k over and leaves the others
-pub xor-here : (b k : ℕ) → digit (bitXor b (2 ^ k)) k ≡ 1 - digit b k
-xor-here b k = digit-xor b (2 ^ k) k ∙ ap (bitXor (digit b k)) (one-here k) ∙ xor-one (digit b k) (omega arith)
+pub xor-here : (b k : ℕ) → binaryDigit (bitXor b (2 ^ k)) k ≡ 1 - binaryDigit b k
+xor-here b k = digit-xor b (2 ^ k) k ∙ ap (bitXor (binaryDigit b k)) (one-here k) ∙ xor-one (binaryDigit b k) (omega arith)
 
-pub xor-there : (b k l : ℕ) → (l ≡ k → ⊥) → digit (bitXor b (2 ^ k)) l ≡ digit b l
-xor-there b k l h = digit-xor b (2 ^ k) l ∙ ap (bitXor (digit b l)) (one-there k l h) ∙ xor-zero-r (digit b l)
+pub xor-there : (b k l : ℕ) → (l ≡ k → ⊥) → binaryDigit (bitXor b (2 ^ k)) l ≡ binaryDigit b l
+xor-there b k l h = digit-xor b (2 ^ k) l ∙ ap (bitXor (binaryDigit b l)) (one-there k l h) ∙ xor-zero-r (binaryDigit b l)
 
 -- ---- shifts that a byte has room for
 

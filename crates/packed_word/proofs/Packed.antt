@@ -2,10 +2,10 @@
 --   bit-bit                    == a bit of a word is 0 or 1
 --   bit-past                   == past its last byte a word has no ones
 --   bit-of                     == bit i of byte q is digit 7 - i of the byte
---   ended                      == the bits of z below n, and none from n on
---   ended-in, ended-out        == of bits that end at n, those below n are as they were and the others 0
---   ended-bit, ended-small     == each of them is 0 or 1
---   ended-cong                 == bits that agree below n agree everywhere once they end at n
+--   bitsBelow                  == the bits of z below n, and none from n on
+--   below-in, below-out        == of these, those below n are as they were and the others 0
+--   below-bit, below-small     == each of them is 0 or 1
+--   below-cong                 == of bits that agree below n these agree everywhere
 --   length-pack                == a packed word has the bytes for n bits
 --   byte-pack                  == byte q of a packed word is made of its eight bits
 --   packed-small               == a byte made of bits is below 256
@@ -38,7 +38,7 @@ use Rattle.counting.proofs.Sums.{sum-cong}
 use Rattle.counting.proofs.Searches.{any-step, any-none, any-at, any-clear}
 use Rattle.counting.proofs.Writes.{length-listed, getD-listed, listed-cong}
 use Rattle.packed_word.specs.Paper.Packed.{bitAt, bytesFor, packedByte, pack, spareSet, Bytes}
-use Rattle.counting.specs.Digits.{digit}
+use Rattle.counting.specs.Digits.{binaryDigit}
 use Rattle.packed_word.proofs.Digits.{byte-small, digit-byte, byte-digit}
 
 -- a bit of a word is 0 or 1
@@ -49,10 +49,10 @@ bit-bit w j = omega arith
 -- past its last byte a word has no ones
 pub bit-past : (w : List ℕ) (j : ℕ) → length w ≤ j / 8 → bitAt w j ≡ 0
 unfolding bitAt
-bit-past w j h = ap (λ (x : ℕ). digit x (7 - j % 8)) (List·getD-eq-default w 0 h) ∙ ap (λ (x : ℕ). x % 2) (zero-div (2 ^ (7 - j % 8)))
+bit-past w j h = ap (λ (x : ℕ). binaryDigit x (7 - j % 8)) (List·getD-eq-default w 0 h) ∙ ap (λ (x : ℕ). x % 2) (zero-div (2 ^ (7 - j % 8)))
 
 -- bit i of byte q
-pub bit-of : (w : List ℕ) (q i : ℕ) → i < 8 → bitAt w (8 * q + i) ≡ digit (getD w q 0) (7 - i)
+pub bit-of : (w : List ℕ) (q i : ℕ) → i < 8 → bitAt w (8 * q + i) ≡ binaryDigit (getD w q 0) (7 - i)
 unfolding bitAt
 bit-of w q i l =
     let e : (8 * q + i) / 8 ≡ q = omega arith in
@@ -62,30 +62,30 @@ bit-of w q i l =
 -- ---- a word that ends at n
 
 -- the bits of z below n, and none from n on
-abbrev pub ended : ℕ → (ℕ → ℕ) → ℕ → ℕ
-ended n z j = flag (ltb j n) * z j
+abbrev pub bitsBelow : ℕ → (ℕ → ℕ) → ℕ → ℕ
+bitsBelow n z j = flag (ltb j n) * z j
 
--- of bits that end at n, those below n are as they were and the others 0
-pub ended-in : (n : ℕ) (z : ℕ → ℕ) (j : ℕ) → j < n → ended n z j ≡ z j
-ended-in n z j l = ap (λ (t : Bool). flag t * z j) (lt-ltb j n l) ∙ one-mul (z j)
+-- of these, those below n are as they were and the others 0
+pub below-in : (n : ℕ) (z : ℕ → ℕ) (j : ℕ) → j < n → bitsBelow n z j ≡ z j
+below-in n z j l = ap (λ (t : Bool). flag t * z j) (lt-ltb j n l) ∙ one-mul (z j)
 
-pub ended-out : (n : ℕ) (z : ℕ → ℕ) (j : ℕ) → n ≤ j → ended n z j ≡ 0
-ended-out n z j l = ap (λ (t : Bool). flag t * z j) (le-ltb j n l) ∙ zero-mul (z j)
+pub below-out : (n : ℕ) (z : ℕ → ℕ) (j : ℕ) → n ≤ j → bitsBelow n z j ≡ 0
+below-out n z j l = ap (λ (t : Bool). flag t * z j) (le-ltb j n l) ∙ zero-mul (z j)
 
 -- each of them is 0 or 1
-pub ended-bit : (n : ℕ) (z : ℕ → ℕ) → ((j : ℕ) → j < n → z j < 2) → (j : ℕ) → ended n z j < 2
-ended-bit n z h j =
-    elim (decLt j n) [ yes l ↦ omega (arith, ended-in n z j l, h j l) | no g ↦ omega (arith, ended-out n z j (omega arith)) ]
+pub below-bit : (n : ℕ) (z : ℕ → ℕ) → ((j : ℕ) → j < n → z j < 2) → (j : ℕ) → bitsBelow n z j < 2
+below-bit n z h j =
+    elim (decLt j n) [ yes l ↦ omega (arith, below-in n z j l, h j l) | no g ↦ omega (arith, below-out n z j (omega arith)) ]
 
-pub ended-small : (n : ℕ) (z : ℕ → ℕ) → ((j : ℕ) → j < n → z j < 2) → (r j : ℕ) → r ≡ ended n z j → r < 2
-ended-small n z h r j e = omega (arith, ended-bit n z h j)
+pub below-small : (n : ℕ) (z : ℕ → ℕ) → ((j : ℕ) → j < n → z j < 2) → (r j : ℕ) → r ≡ bitsBelow n z j → r < 2
+below-small n z h r j e = omega (arith, below-bit n z h j)
 
 -- bits that agree below n
-pub ended-cong : (n : ℕ) (z c : ℕ → ℕ) → ((j : ℕ) → j < n → z j ≡ c j) → (j : ℕ) → ended n z j ≡ ended n c j
-ended-cong n z c h j =
+pub below-cong : (n : ℕ) (z c : ℕ → ℕ) → ((j : ℕ) → j < n → z j ≡ c j) → (j : ℕ) → bitsBelow n z j ≡ bitsBelow n c j
+below-cong n z c h j =
     elim (decLt j n) [
-      | yes l ↦ ended-in n z j l ∙ h j l ∙ sym (ended-in n c j l)
-      | no g ↦ ended-out n z j (omega arith) ∙ sym (ended-out n c j (omega arith))
+      | yes l ↦ below-in n z j l ∙ h j l ∙ sym (below-in n c j l)
+      | no g ↦ below-out n z j (omega arith) ∙ sym (below-out n c j (omega arith))
     ]
 
 -- ---- packing
@@ -101,31 +101,31 @@ unfolding pack
 byte-pack n z q l = getD-listed (bytesFor n) (packedByte n z) q 0 l
 
 module _ (n : ℕ) (z : ℕ → ℕ) (bits : (j : ℕ) → j < n → z j < 2) where
-  digit-packed : (q i : ℕ) → i < 8 → digit (packedByte n z q) (7 - i) ≡ ended n z (8 * q + i)
+  digit-packed : (q i : ℕ) → i < 8 → binaryDigit (packedByte n z q) (7 - i) ≡ bitsBelow n z (8 * q + i)
   unfolding packedByte
-  digit-packed q i l = digit-byte (λ i. ended n z (8 * q + i)) (λ i l. ended-bit n z bits (8 * q + i)) i l
+  digit-packed q i l = digit-byte (λ i. bitsBelow n z (8 * q + i)) (λ i l. below-bit n z bits (8 * q + i)) i l
 
   -- a byte made of bits is below 256
   pub packed-small : (q : ℕ) → packedByte n z q < 256
   unfolding packedByte
-  packed-small q = byte-small (λ i. ended n z (8 * q + i)) (λ i l. ended-bit n z bits (8 * q + i))
+  packed-small q = byte-small (λ i. bitsBelow n z (8 * q + i)) (λ i l. below-bit n z bits (8 * q + i))
 
   -- a bit of a byte of the word
-  bitAt-ended : (j : ℕ) → j / 8 < bytesFor n → bitAt (pack n z) j ≡ ended n z j
+  bitAt-below : (j : ℕ) → j / 8 < bytesFor n → bitAt (pack n z) j ≡ bitsBelow n z j
   unfolding bitAt
-  bitAt-ended j l =
+  bitAt-below j l =
       let e : 8 * (j / 8) + j % 8 ≡ j = omega arith in
-      ap (λ (x : ℕ). digit x (7 - j % 8)) (byte-pack n z (j / 8) l) ∙ digit-packed (j / 8) (j % 8) (omega arith) ∙ ap (ended n z) e
+      ap (λ (x : ℕ). binaryDigit x (7 - j % 8)) (byte-pack n z (j / 8) l) ∙ digit-packed (j / 8) (j % 8) (omega arith) ∙ ap (bitsBelow n z) e
 
   -- the bits of a packed word are those that were packed
   pub bitAt-pack : (j : ℕ) → j < n → bitAt (pack n z) j ≡ z j
-  bitAt-pack j l = bitAt-ended j (omega arith) ∙ ended-in n z j l
+  bitAt-pack j l = bitAt-below j (omega arith) ∙ below-in n z j l
 
   -- its spare places are 0
   pub spare-pack : (j : ℕ) → n ≤ j → bitAt (pack n z) j ≡ 0
   spare-pack j l =
       elim (decLt (j / 8) (bytesFor n)) [
-        | yes h ↦ bitAt-ended j h ∙ ended-out n z j l
+        | yes h ↦ bitAt-below j h ∙ below-out n z j l
         | no g ↦ bit-past (pack n z) j (omega (arith, length-pack n z))
       ]
 
@@ -143,7 +143,7 @@ pub pack-cong : (n : ℕ) (z c : ℕ → ℕ) → ((j : ℕ) → j < n → z j �
 unfolding pack packedByte
 pack-cong n z c h =
     listed-cong (bytesFor n) (packedByte n z) (packedByte n c)
-    (λ q m. sum-cong 8 (λ i l. ap (λ (x : ℕ). x * 2 ^ (7 - i)) (ended-cong n z c h (8 * q + i))))
+    (λ q m. sum-cong 8 (λ i l. ap (λ (x : ℕ). x * 2 ^ (7 - i)) (below-cong n z c h (8 * q + i))))
 
 -- ---- spare places
 
@@ -171,11 +171,11 @@ unfolding Bytes packedByte
 pack-bitAt n w small long clear =
     ext-getD 0 (pack n (bitAt w)) w (length-pack n (bitAt w) ∙ sym long) same
   where
-    bit : (q i : ℕ) → q < bytesFor n → i < 8 → ended n (bitAt w) (8 * q + i) ≡ digit (getD w q 0) (7 - i)
+    bit : (q i : ℕ) → q < bytesFor n → i < 8 → bitsBelow n (bitAt w) (8 * q + i) ≡ binaryDigit (getD w q 0) (7 - i)
     bit q i h l =
         elim (decLt (8 * q + i) n) [
-          | yes m ↦ ended-in n (bitAt w) (8 * q + i) m ∙ bit-of w q i l
-          | no g ↦ ended-out n (bitAt w) (8 * q + i) (omega arith) ∙ sym (spare-clear n w clear (8 * q + i) (omega arith) (omega arith)) ∙ bit-of w q i l
+          | yes m ↦ below-in n (bitAt w) (8 * q + i) m ∙ bit-of w q i l
+          | no g ↦ below-out n (bitAt w) (8 * q + i) (omega arith) ∙ sym (spare-clear n w clear (8 * q + i) (omega arith) (omega arith)) ∙ bit-of w q i l
         ]
 
     same : (q : ℕ) → q < length (pack n (bitAt w)) → getD (pack n (bitAt w)) q 0 ≡ getD w q 0

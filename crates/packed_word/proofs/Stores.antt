@@ -25,28 +25,29 @@ use Rattle.counting.specs.Paper.Lists.{listed, over}
 use Rattle.counting.proofs.Writes.{over-more}
 use Rattle.packed_word.specs.Paper.Packed.{bitAt, packedByte}
 use Rattle.packed_word.specs.Steps.{SetBit, FlipBit, Unpacked}
-use Rattle.counting.specs.Digits.{digit}
+use Rattle.counting.specs.Digits.{binaryDigit}
 use Rattle.counting.proofs.Digits.{or-here, or-there}
 use Rattle.packed_word.proofs.Masks.{xor-here, xor-there}
-use Rattle.packed_word.proofs.Packed.{ended}
+use Rattle.packed_word.proofs.Packed.{bitsBelow}
 
 -- ---- one byte of a packed word
 
 module _ (w : List ℕ) (j v : ℕ) (fits : j / 8 < length w) where
-  stored-here : bitAt (set w (j / 8) v) j ≡ digit v (7 - j % 8)
+  stored-here : bitAt (set w (j / 8) v) j ≡ binaryDigit v (7 - j % 8)
   unfolding bitAt
-  stored-here = ap (λ (x : ℕ). digit x (7 - j % 8)) (getD-set-same w (j / 8) v 0 fits)
+  stored-here = ap (λ (x : ℕ). binaryDigit x (7 - j % 8)) (getD-set-same w (j / 8) v 0 fits)
 
-  stored-there : ((l : ℕ) → (l ≡ 7 - j % 8 → ⊥) → digit v l ≡ digit (getD w (j / 8) 0) l) → (k : ℕ) → (k ≡ j → ⊥) → bitAt (set w (j / 8) v) k ≡ bitAt w k
+  stored-there : ((l : ℕ) → (l ≡ 7 - j % 8 → ⊥) → binaryDigit v l ≡ binaryDigit (getD w (j / 8) 0) l) → (k : ℕ) → (k ≡ j → ⊥)
+      → bitAt (set w (j / 8) v) k ≡ bitAt w k
   unfolding bitAt
   stored-there same k h =
       elim (ℕ-discrete (k / 8) (j / 8)) [
         | yes e ↦
-            ap (λ (x : ℕ). digit (getD (set w (j / 8) v) x 0) (7 - k % 8)) e
-            ∙ ap (λ (x : ℕ). digit x (7 - k % 8)) (getD-set-same w (j / 8) v 0 fits)
+            ap (λ (x : ℕ). binaryDigit (getD (set w (j / 8) v) x 0) (7 - k % 8)) e
+            ∙ ap (λ (x : ℕ). binaryDigit x (7 - k % 8)) (getD-set-same w (j / 8) v 0 fits)
             ∙ same (7 - k % 8) (λ q. h (omega arith))
-            ∙ ap (λ (x : ℕ). digit (getD w x 0) (7 - k % 8)) (sym e)
-        | no f ↦ ap (λ (x : ℕ). digit x (7 - k % 8)) (getD-set-other w (j / 8) (k / 8) v 0 f)
+            ∙ ap (λ (x : ℕ). binaryDigit (getD w x 0) (7 - k % 8)) (sym e)
+        | no f ↦ ap (λ (x : ℕ). binaryDigit x (7 - k % 8)) (getD-set-other w (j / 8) (k / 8) v 0 f)
       ]
 
 module _ (w : List ℕ) (j : ℕ) (fits : j / 8 < length w) where
@@ -93,7 +94,7 @@ unpacked-more k w old new x l e u =
 
 -- bit i of byte q of the word with bits z that ends at n
 abbrev pub eight : ℕ → (ℕ → ℕ) → ℕ → ℕ → ℕ
-eight n z q i = ended n z (8 * q + i)
+eight n z q i = bitsBelow n z (8 * q + i)
 
 -- the number with bits f 0 .. f (i - 1), the highest first
 unfoldable pub binaryOf : (ℕ → ℕ) → ℕ → ℕ

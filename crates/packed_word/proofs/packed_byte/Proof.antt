@@ -3,7 +3,7 @@ use mathlib.Core.Path.{_≡_, ap, _∙_}
 use Prim.Native.Nat.{ℕ, _+_, _*_, _-_, _≤_}
 use native.Mathlib.Omega.{arith}
 use Rattle.counting.specs.Places.{at}
-use Rattle.packed_word.proofs.Packed.{ended-bit, ended-small}
+use Rattle.packed_word.proofs.Packed.{below-bit, below-small}
 use Rattle.packed_word.proofs.Stores.{eight, binaryOf, binary-none, binary-more, binary-all, binary-room}
 use Rattle.packed_word.proofs.packed_byte.Statement.{statement}
 use Rattle.packed_word.proofs.packed_byte.Tie as tie
@@ -31,8 +31,8 @@ with-bit-requires c κs =
     let s = c .before .before .before in
     let l = c .before .before .loop in
     let z : ℕ → ℕ = at (s .args .bits .now) in (
-      omega (arith, binary-room (eight (s .args .n) z (s .args .q)) (l .i) (λ k. ended-bit (s .args .n) z (s .pre .2) (8 * s .args .q + k)) (omega arith)),
-      ended-small (s .args .n) z (s .pre .2) (c .bit-or-zero .result) _ (c .bit-or-zero .ensures),
+      omega (arith, binary-room (eight (s .args .n) z (s .args .q)) (l .i) (λ k. below-bit (s .args .n) z (s .pre .2) (8 * s .args .q + k)) (omega arith)),
+      below-small (s .args .n) z (s .pre .2) (c .bit-or-zero .result) _ (c .bit-or-zero .ensures),
     )
 
 add-i : tie.Need-add-i Inv-loop μ-loop
