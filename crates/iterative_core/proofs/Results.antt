@@ -6,7 +6,7 @@
 --   states-bound      == so do those after k rounds
 --   end-bound         == so do those at the end
 --   packed-room       == a buffer with room for a word still has it after one is packed into it
---   call-ready        == the arrays of a call are ready for a round
+--   run-lent          == the arrays of a call may be lent to the rounds
 --   call-hard         == the hard bits are bits
 --   call-bits         == the bits where the decoder stops are bits
 --   call-restorable   == the levels where it stops can be written back
@@ -38,7 +38,7 @@ use Rattle.iterative_core.specs.Paper.Iterative.{startOf, changedBits, e
 use Rattle.iterative_core.proofs.Changes.{changed-all}
 use Rattle.iterative_rounds.specs.Paper.Ends.{stateAt}
 use Rattle.iterative_rounds.specs.Alike.{Alike, AlikeEnds}
-use Rattle.iterative_rounds.specs.Runs.{stateOf, Holds, Ready, Stopped, RunLeft}
+use Rattle.iterative_rounds.specs.Runs.{stateOf, Holds, RunLent, Stopped, RunLeft}
 use Rattle.iterative_core.specs.Calls.{CallLent, Started, Decoded}
 use Rattle.iterative_rounds.proofs.Ends.{levels-bound, end-state, ends-alike, failing-alike-end}
 use Rattle.iterative_rounds.proofs.States.{holds-word}
@@ -136,8 +136,8 @@ module _ (H : Matrix) (S : Setting) (xs : List Float) (w : List ℕ) (ls : List 
   holds-start : Holds (H .n) (largest (S .bits)) z x (startOf S xs)
   holds-start = rw (lent .samples) at (start .holds)
 
-  start-ready : Ready H (largest (S .bits)) z x
-  start-ready =
+  start-lent : RunLent H (largest (S .bits)) z x
+  start-lent =
       let h = holds-start in
       record {
         matrix = lent .matrix;
@@ -233,9 +233,9 @@ module _ (H : Matrix) (S : Setting) (xs : List Float) (w : List ℕ) (ls : List 
 
 module _ {H : Matrix} {S : Setting} {xs : List Float} {w : List ℕ} {ls ls₁ : List ℤ} {z₀ z x₀ x : List ℕ} {L : ℕ}
     (lent : CallLent H S xs w ls) (start : Started S xs ls ls₁ z₀ z x₀ x) (e : L ≡ largest (S .bits)) where
-  -- the arrays of a call are ready for a round
-  pub call-ready : Ready H L z x
-  call-ready = rw e (start-ready H S xs w ls lent ls₁ z x start)
+  -- the arrays of a call may be lent to the rounds
+  pub run-lent : RunLent H L z x
+  run-lent = rw e (start-lent H S xs w ls lent ls₁ z x start)
 
   -- the hard bits are bits
   pub call-hard : (j : ℕ) → j < H .n → at z j < 2

@@ -1,12 +1,12 @@
 -- The loop of `run`: what holds after k rounds, how a round carries it on, and what it says where the loop stops.
---   ready-holds    == arrays that are ready hold the state that they stand for
+--   lent-holds     == arrays that are lent to the rounds hold the state that they stand for
 --   holds-alike    == arrays that hold a state stand for one like it
 --   alike-holds    == arrays that hold a state hold every state like it
---   holds-ready    == arrays that hold a state are ready for a round
+--   holds-lent     == arrays that hold a state may be lent to a round
 --   moved-word     == the bits after a pass are a word
 --   Going          == what holds after k rounds of the loop
 --   going-starts   == it holds before the first round
---   going-ready    == the arrays are then ready for a round
+--   going-lent     == the arrays may then be lent to a round
 --   going-ends     == where the loop stops, the arrays are as `run` leaves them
 --   going-step     == where it does not, this holds after one round more
 -- Assumes nothing.
@@ -27,17 +27,17 @@ use Rattle.iterative_rounds.specs.Paper.Rounds.{State}
 use Rattle.iterative_levels.specs.Levels.{biased, unbiased, Moved}
 use Rattle.iterative_rounds.specs.Paper.Ends.{stateAt}
 use Rattle.iterative_rounds.specs.Alike.{Alike}
-use Rattle.iterative_rounds.specs.Runs.{stateOf, Holds, Ready, Rounded, RunLeft}
+use Rattle.iterative_rounds.specs.Runs.{stateOf, Holds, RunLent, Rounded, RunLeft}
 use Rattle.iterative_levels.proofs.Levels.{biased-le, biased-back, back-biased, above-middle-bit}
 use Rattle.iterative_rounds.proofs.Ends.{end-at}
 use Rattle.iterative_rounds.proofs.States.{holds-word, round-holds}
 
 -- ---- the state that arrays stand for
 
--- arrays that are ready hold the state that they stand for
-pub ready-holds : (H : Matrix) (L : ℕ) (z x : List ℕ) → Ready H L z x → Holds (H .n) L z x (stateOf L z x)
+-- arrays that are lent to the rounds hold the state that they stand for
+pub lent-holds : (H : Matrix) (L : ℕ) (z x : List ℕ) → RunLent H L z x → Holds (H .n) L z x (stateOf L z x)
 unfolding stateOf unbiased Word
-ready-holds H L z x r =
+lent-holds H L z x r =
     record {
       long-word = r .long-word;
       long-levels = r .long-levels;
@@ -65,9 +65,9 @@ alike-holds n L z x s t h a =
       within = λ j l. rw (a .levels j l) at (h .within j l);
     }
 
--- they are ready for a round
-pub holds-ready : (H : Matrix) (L : ℕ) (z x : List ℕ) (s : State) (z₀ x₀ : List ℕ) → Ready H L z₀ x₀ → Holds (H .n) L z x s → Ready H L z x
-holds-ready H L z x s z₀ x₀ r h =
+-- they may be lent to a round
+pub holds-lent : (H : Matrix) (L : ℕ) (z x : List ℕ) (s : State) (z₀ x₀ : List ℕ) → RunLent H L z₀ x₀ → Holds (H .n) L z x s → RunLent H L z x
+holds-lent H L z x s z₀ x₀ r h =
     record {
       matrix = r .matrix;
       largest = r .largest;
@@ -94,14 +94,14 @@ pub record Going (H : Matrix) (L limit : ℕ) (z₀ x₀ z x p v : List ℕ) (f 
   pub rest-word : (j : ℕ) → H .n ≤ j → at z j ≡ at z₀ j
   pub rest-levels : (j : ℕ) → H .n ≤ j → at x j ≡ at x₀ j
 
-module _ (H : Matrix) (L limit : ℕ) (z₀ x₀ : List ℕ) (r : Ready H L z₀ x₀) where
+module _ (H : Matrix) (L limit : ℕ) (z₀ x₀ : List ℕ) (r : RunLent H L z₀ x₀) where
   -- it holds before the first round
   pub going-starts : (p₀ p v : List ℕ) (f : ℕ) → Retallied H (at z₀) p₀ p v f → Going H L limit z₀ x₀ z₀ x₀ p v f 0
   unfolding stateAt
   going-starts p₀ p v f t =
       record {
         within = omega arith;
-        holds = ready-holds H L z₀ x₀ r;
+        holds = lent-holds H L z₀ x₀ r;
         parities = t .renewed .parities;
         tallied = t .tallied;
         earlier = λ i h. absurd (omega arith);
@@ -113,9 +113,9 @@ module _ (H : Matrix) (L limit : ℕ) (z₀ x₀ : List ℕ) (r : Ready H L z₀
     now-fails : f ≡ failing H (stateAt H L (stateOf L z₀ x₀) k .z)
     now-fails = g .tallied .count ∙ failing-cong H (r .matrix .rows) (at z) (stateAt H L (stateOf L z₀ x₀) k .z) (g .holds .word)
 
-    -- the arrays are then ready for a round
-    pub going-ready : Ready H L z x
-    going-ready = holds-ready H L z x (stateAt H L (stateOf L z₀ x₀) k) z₀ x₀ r (g .holds)
+    -- the arrays may then be lent to a round
+    pub going-lent : RunLent H L z x
+    going-lent = holds-lent H L z x (stateAt H L (stateOf L z₀ x₀) k) z₀ x₀ r (g .holds)
 
     -- the loop stops here
     pub going-ends : (0 < f → k ≡ limit) → RunLeft H L limit z₀ x₀ z x k f

@@ -1,11 +1,11 @@
 -- What the arrays of a running decoder hold.
 --   stateOf L z x        == the state that the bits z and the levels x stand for
 --   Holds n L z x s      == they stand for the state s below n
---   Ready H L z x        == what a round asks: an accepted matrix, bits, and levels in their range
+--   RunLent H L z x      == what a round asks: an accepted matrix, bits, and levels in their range
 --   Rounded              == what a round leaves: the next bits and levels, their parities, their votes and their failing checks
 --   Stopped H L e ..     == the arrays hold the state of the end e, with its rounds and its failing checks
 --   RunLeft              == what the rounds from the arrays' state on leave; the cells past the bits stay
--- Levels are kept as in Levels.antt. Assumes nothing.
+-- Levels are kept as in specs/Levels.antt of `iterative_levels`. Assumes nothing.
 use mathlib.Core.Path.{_≡_}
 use mathlib.Core.List.{List}
 use Prim.Native.Nat.{ℕ, _*_, _≤_, _<_}
@@ -30,7 +30,7 @@ pub record Holds (n L : ℕ) (z x : List ℕ) (s : State) : Type 0 where
   pub levels : (j : ℕ) → j < n → at x j ≡ biased L (s .R j)
   pub within : (j : ℕ) → j < n → natAbs (s .R j) ≤ L
 
-pub record Ready (H : Matrix) (L : ℕ) (z x : List ℕ) : Type 0 where
+pub record RunLent (H : Matrix) (L : ℕ) (z x : List ℕ) : Type 0 where
   pub matrix : Accepted H
   pub largest : L ≤ mostLevel
   pub long-word : length z ≡ 1023

@@ -16,7 +16,7 @@ use mir.Val.{boolByte}
 use Rattle.counting.proofs.Writes.{stored}
 use Rattle.counting.specs.Places.{at}
 use Rattle.majority_logic.specs.Paper.Votes.{flipWhen}
-use Rattle.majority_flips.specs.Flips.{Voted}
+use Rattle.majority_flips.specs.Flips.{VotedBits}
 
 -- of a bit, `^` with the test turns it over where the test passes
 pub flip-bit : (t : Bool) (b : ℕ) → b < 2 → bitXor b (boolByte t) ≡ flipWhen t b
@@ -28,12 +28,12 @@ flip-bit false (suc zero) h = refl
 flip-bit false (suc (suc b)) h = absurd (omega arith)
 
 -- no bit is voted on yet
-pub voted-none : (gamma : ℕ) (v l : List ℕ) → length l ≡ 1023 → Voted 0 gamma v l l
+pub voted-none : (gamma : ℕ) (v l : List ℕ) → length l ≡ 1023 → VotedBits 0 gamma v l l
 voted-none gamma v l e = record { long = e; each = λ j h. absurd (omega arith); rest = λ j h. refl }
 
 -- one bit more
-pub voted-step : (n gamma : ℕ) (v old new : List ℕ) (b : ℕ) → n < 1023 → Voted n gamma v old new → b ≡ flipWhen (ltb gamma (2 * at v n)) (at new n)
-    → Voted (n + 1) gamma v old (set new n b)
+pub voted-step : (n gamma : ℕ) (v old new : List ℕ) (b : ℕ) → n < 1023 → VotedBits n gamma v old new → b ≡ flipWhen (ltb gamma (2 * at v n)) (at new n)
+    → VotedBits (n + 1) gamma v old (set new n b)
 voted-step n gamma v old new b h t e =
     record {
       long = length-set new n b ∙ t .long;

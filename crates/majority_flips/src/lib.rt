@@ -7,7 +7,7 @@ ghost use lib.Dec.{ltb};
 ghost use lib.ListN.{length};
 ghost use Rattle.counting.specs.Places.{at};
 ghost use Rattle.majority_logic.specs.Paper.Votes.{flipWhen};
-ghost use Rattle.majority_flips.specs.Flips.{Voted};
+ghost use Rattle.majority_flips.specs.Flips.{VotedBits};
 
 // The bit b after the vote: turned over where more than half of its gamma checks fail, so that a tie keeps it.
 // The test is added to the bit and not branched on, since no branch could be guessed from noise.
@@ -22,7 +22,7 @@ fn voted(gamma: u16, v: u8, b: u8) -> u8
 // The first n bits after the vote.
 fn flip_front(votes: &[u8; 1023], n: usize, gamma: u16, bits: &mut [u8])
     requires { ⌜ (n ≤ 1023) × (length (now bits) ≡ 1023) × ((j : ℕ) → j < n → at (now bits) j < 2) ⌝ }
-    ensures { λ _. ⌜ Voted n gamma (now (votes .entry)) (now (bits .entry)) (now (bits .exit)) ⌝ }
+    ensures { λ _. ⌜ VotedBits n gamma (now (votes .entry)) (now (bits .entry)) (now (bits .exit)) ⌝ }
 {
     let mut j = 0;
     while j < n {
@@ -35,7 +35,7 @@ fn flip_front(votes: &[u8; 1023], n: usize, gamma: u16, bits: &mut [u8])
 // Only this repository's crates call it, after the check.
 pub fn flip_all(shape: Shape, votes: &[u8; 1023], bits: &mut [u8; 1023])
     requires { ⌜ (shape .n ≤ 1023) × ((j : ℕ) → j < shape .n → at (now bits) j < 2) ⌝ }
-    ensures { λ _. ⌜ Voted (shape .n) (shape .gamma) (now (votes .entry)) (now (bits .entry)) (now (bits .exit)) ⌝ }
+    ensures { λ _. ⌜ VotedBits (shape .n) (shape .gamma) (now (votes .entry)) (now (bits .entry)) (now (bits .exit)) ⌝ }
 {
     let n = shape.n as usize;
     let gamma = shape.gamma;

@@ -29,7 +29,7 @@ use Rattle.syndrome.proofs.Parity.{row-part}
 use Rattle.syndrome.proofs.Lists.{places-sum}
 use Rattle.majority_logic.specs.Paper.Votes.{votes}
 use Rattle.majority_logic.proofs.Correction.{votes-small}
-use Rattle.majority_votes.specs.Tallies.{ofRows, Room, Parts, More, Tallied}
+use Rattle.majority_votes.specs.Tallies.{ofRows, Addable, ListedRows, More, Tallied}
 
 -- ---- one row
 
@@ -69,9 +69,9 @@ unfolding ofRows sumBelow
 rows-none l rho rows v e = record { long = e; each = λ j. omega arith }
 
 -- the next row has room for its votes
-pub rows-next : (l : List ℕ) (rho : ℕ) (rows : List ℕ) (t q : ℕ) (old mid : List ℕ) → q < t → Room (ofRows l rho rows t) old
+pub rows-next : (l : List ℕ) (rho : ℕ) (rows : List ℕ) (t q : ℕ) (old mid : List ℕ) → q < t → Addable (ofRows l rho rows t) old
     → More (ofRows l rho rows q) old mid
-    → Room (among l (at rows q * rho) rho) mid
+    → Addable (among l (at rows q * rho) rho) mid
 unfolding ofRows
 rows-next l rho rows t q old mid h r m =
     record { long = m .long; fits = λ j. omega (arith, m .each j, r .fits j, sum-next q t (λ p. among l (at rows p * rho) rho j) h) }
@@ -88,7 +88,7 @@ rows-step l rho rows q old mid new t u =
 
 module _ (H : Matrix) (a : Accepted H) (z : ℕ → ℕ) (rows : List ℕ) (t : ℕ) (p : Places (fails H z) (H .m) rows t) where
   -- they are rows of the list
-  pub failing-parts : Parts (H .list) (H .rho) rows t
+  pub failing-parts : ListedRows (H .list) (H .rho) rows t
   failing-parts =
       record {
         few = omega (arith, p .few, a .sizes .m-most);
@@ -104,7 +104,7 @@ module _ (H : Matrix) (a : Accepted H) (z : ℕ → ℕ) (rows : List ℕ) (t : 
       ∙ sum-cong (H .m) (λ i h. mul-comm (fails H z i) (has H i j))
 
   -- which fit a cleared array
-  pub failing-room : Room (ofRows (H .list) (H .rho) rows t) (replicate 1023 0)
+  pub failing-room : Addable (ofRows (H .list) (H .rho) rows t) (replicate 1023 0)
   failing-room =
       record {
         long = length-replicate {A = ℕ} 1023 0;

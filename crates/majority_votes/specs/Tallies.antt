@@ -1,7 +1,7 @@
 -- What the votes' array holds. (Document 01, "One-step voting".)
 --   ofRows l rho rows t j     == how often the first t of the listed rows have column j
---   Parts l rho rows t        == these rows are parts of l
---   Room f v                  == f more at every place of the array v fits its bytes
+--   ListedRows l rho rows t   == these rows are parts of l
+--   Addable f v               == f more at every place of the array v fits its bytes
 --   More f old new            == the array with f more at every place
 --   Tallied H z v f           == v is the votes on the word z, and f the number of failing checks
 -- Assumes nothing.
@@ -20,13 +20,13 @@ unfoldable pub ofRows : List ℕ → ℕ → List ℕ → ℕ → ℕ → ℕ
 ofRows l rho rows t j = sumBelow t (λ q. among l (at rows q * rho) rho j)
 
 -- the listed rows
-pub record Parts (l : List ℕ) (rho : ℕ) (rows : List ℕ) (t : ℕ) : Type 0 where
+pub record ListedRows (l : List ℕ) (rho : ℕ) (rows : List ℕ) (t : ℕ) : Type 0 where
   pub few : t ≤ 1023
   pub below : (q : ℕ) → q < t → at rows q < 1023
   pub part : (q : ℕ) → q < t → Part l (at rows q * rho) rho
 
 -- an array of 1,023 bytes to which f can be added
-pub record Room (f : ℕ → ℕ) (v : List ℕ) : Type 0 where
+pub record Addable (f : ℕ → ℕ) (v : List ℕ) : Type 0 where
   pub long : length v ≡ 1023
   pub fits : (j : ℕ) → at v j + f j ≤ 255
 

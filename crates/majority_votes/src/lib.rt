@@ -7,7 +7,7 @@ ghost use Rattle.matrix.specs.Paper.Code.{Word};
 ghost use Rattle.matrix.specs.Paper.PlainCheck.{Accepted};
 ghost use Rattle.matrix.specs.Paper.Shapes.{matrixOf};
 ghost use Rattle.syndrome.specs.Places.{Part};
-ghost use Rattle.majority_votes.specs.Tallies.{ofRows, Room, Parts, More, Tallied};
+ghost use Rattle.majority_votes.specs.Tallies.{ofRows, Addable, ListedRows, More, Tallied};
 
 // Where voting stopped: how many rounds there were, and how many checks fail.
 pub struct Stop {
@@ -17,7 +17,7 @@ pub struct Stop {
 
 // A vote more at each of `count` column numbers of the list.
 fn add_row(list: &[u16], from: usize, count: usize, votes: &mut [u8; 1023])
-    requires { ⌜ Part (now list) from count × Room (among (now list) from count) (now votes) ⌝ }
+    requires { ⌜ Part (now list) from count × Addable (among (now list) from count) (now votes) ⌝ }
     ensures { λ _. ⌜ More (among (now (list .entry)) from count) (now (votes .entry)) (now (votes .exit)) ⌝ }
 {
     let mut k = 0;
@@ -30,7 +30,7 @@ fn add_row(list: &[u16], from: usize, count: usize, votes: &mut [u8; 1023])
 
 // A vote more at each column of each listed row. Only this repository's crates call it, with rows of an accepted matrix.
 pub fn add_rows(list: &[u16], rho: usize, rows: &[u16; 1023], count: usize, votes: &mut [u8; 1023])
-    requires { ⌜ Parts (now list) rho (now rows) count × Room (ofRows (now list) rho (now rows) count) (now votes) ⌝ }
+    requires { ⌜ ListedRows (now list) rho (now rows) count × Addable (ofRows (now list) rho (now rows) count) (now votes) ⌝ }
     ensures { λ _. ⌜ More (ofRows (now (list .entry)) rho (now (rows .entry)) count) (now (votes .entry)) (now (votes .exit)) ⌝ }
 {
     let mut q = 0;

@@ -17,7 +17,7 @@ use Rattle.majority_logic.specs.Paper.Votes.{flipWhen}
 use Rattle.majority_logic.specs.Paper.OneStep.{stepWord, stepRounds}
 use Rattle.majority_logic.proofs.Correction.{flipped-by, stepWord-flipped, stepWord-bit}
 use Rattle.majority_votes.specs.Tallies.{Tallied}
-use Rattle.majority_flips.specs.Flips.{Voted}
+use Rattle.majority_flips.specs.Flips.{VotedBits}
 use Rattle.one_step_core.specs.Stepped.{Stepped}
 
 -- the rounds of a word with and without failing checks
@@ -47,7 +47,7 @@ module _ (H : Matrix) (a : Accepted H) (bits v : List ℕ) (f : ℕ) (t : Tallie
       }
 
   -- the bits after the flips
-  voted-word : (new : List ℕ) → Voted (H .n) (H .gamma) v bits new → (j : ℕ) → j < H .n → at new j ≡ stepWord H (at bits) j
+  voted-word : (new : List ℕ) → VotedBits (H .n) (H .gamma) v bits new → (j : ℕ) → j < H .n → at new j ≡ stepWord H (at bits) j
   voted-word new w j h =
       w .each j h
       ∙ ap (λ (x : ℕ). flipWhen (ltb (H .gamma) (2 * x)) (at bits j)) (t .each j)
@@ -55,12 +55,12 @@ module _ (H : Matrix) (a : Accepted H) (bits v : List ℕ) (f : ℕ) (t : Tallie
       ∙ ap (λ (g : ℕ → ℕ). g j) (sym (stepWord-flipped H (at bits)))
 
   -- a word that is voted on stays a word
-  pub voted-bits : (new : List ℕ) → Voted (H .n) (H .gamma) v bits new → Word H (at bits) → Word H (at new)
+  pub voted-bits : (new : List ℕ) → VotedBits (H .n) (H .gamma) v bits new → Word H (at bits) → Word H (at new)
   unfolding Word
   voted-bits new w b j h = omega (arith, voted-word new w j h, stepWord-bit H (at bits) b j h)
 
   -- some check fails: the bits are flipped, and the checks counted again
-  pub stepped-voted : (new : List ℕ) (g : ℕ) → (f ≡ 0 → ⊥) → Voted (H .n) (H .gamma) v bits new → g ≡ failing H (at new) → Stepped H bits new 1 g
+  pub stepped-voted : (new : List ℕ) (g : ℕ) → (f ≡ 0 → ⊥) → VotedBits (H .n) (H .gamma) v bits new → g ≡ failing H (at new) → Stepped H bits new 1 g
   stepped-voted new g ne w e =
       record {
         each = voted-word new w;

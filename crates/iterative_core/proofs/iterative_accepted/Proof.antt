@@ -6,7 +6,7 @@ use native.Mathlib.Omega.{arith}
 use borrow.Author.Needs.{needs}
 use lib.ListN.{length-replicate}
 use Rattle.quantiser_settings.proofs.Ranges.{fits-reads}
-use Rattle.iterative_core.proofs.Results.{call-ready, call-hard, call-bits, call-restorable, call-decoded, packed-room}
+use Rattle.iterative_core.proofs.Results.{run-lent, call-hard, call-bits, call-restorable, call-decoded, packed-room}
 use Rattle.iterative_core.proofs.iterative_accepted.Statement.{statement}
 use Rattle.iterative_core.proofs.iterative_accepted.Tie as tie
 
@@ -55,7 +55,7 @@ pack-into-requires c κs =
 run-requires : tie.Need-run-requires
 run-requires c κs =
     let s = c .before .before .before .before .before .before .before in
-    (call-ready (entry s .pre .0) (s .start .ensures) (middle s .largest-of .ensures), entry s .pre .1)
+    (run-lent (entry s .pre .0) (s .start .ensures) (middle s .largest-of .ensures), entry s .pre .1)
 
 pack-into-requires-2 : tie.Need-pack-into-requires-2
 pack-into-requires-2 c κs =

@@ -5,7 +5,7 @@ use Prim.Native.Nat.{_-_}
 use native.Mathlib.Omega.{arith}
 use Rattle.matrix.specs.Paper.Shapes.{matrixOf}
 use Rattle.iterative_tally.proofs.KeptParities.{zero-word, zero-parities}
-use Rattle.iterative_rounds.proofs.Runs.{Going, going-starts, going-ready, going-ends, going-step}
+use Rattle.iterative_rounds.proofs.Runs.{Going, going-starts, going-lent, going-ends, going-step}
 use Rattle.iterative_rounds.proofs.run.Statement.{statement}
 use Rattle.iterative_rounds.proofs.run.Tie as tie
 
@@ -38,7 +38,7 @@ round-requires : tie.Need-round-requires Inv-loop μ-loop
 round-requires c κs =
     let l = c .before .before .before .before .before .before in
     let z = l .before .before .before .before .before .before .before .before in
-    (going-ready _ _ _ _ _ (z .pre .0) _ _ _ _ _ _ (l .loop .inv), (z .pre .1, l .loop .inv .parities))
+    (going-lent _ _ _ _ _ (z .pre .0) _ _ _ _ _ _ (l .loop .inv), (z .pre .1, l .loop .inv .parities))
 
 add-k : tie.Need-add-k Inv-loop μ-loop
 add-k c = omega (arith, c .before .before .before .before .before .before .before .before .before .before .before .before .before .before .before .fits .limit)

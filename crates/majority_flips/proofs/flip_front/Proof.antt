@@ -3,13 +3,13 @@ use Prim.Native.Nat.{_-_, _≤_}
 use mathlib.Core.Path.{sym, _∙_}
 use native.Mathlib.Nat.{le-antisymm, le-refl}
 use native.Mathlib.Omega.{arith}
-use Rattle.majority_flips.specs.Flips.{Voted}
+use Rattle.majority_flips.specs.Flips.{VotedBits}
 use Rattle.majority_flips.proofs.Flips.{voted-none, voted-step}
 use Rattle.majority_flips.proofs.flip_front.Statement.{statement}
 use Rattle.majority_flips.proofs.flip_front.Tie as tie
 
 abbrev Inv-loop : tie.InvT-loop
-Inv-loop votes n gamma bits₀ j₀ bits j = (j ≤ n) × Voted j gamma votes bits₀ bits
+Inv-loop votes n gamma bits₀ j₀ bits j = (j ≤ n) × VotedBits j gamma votes bits₀ bits
 
 abbrev μ-loop : tie.MeasureT-loop
 μ-loop votes n gamma bits₀ j₀ bits j = n - j
