@@ -33,18 +33,10 @@ open-copy-requires : tie.Need-open-copy-requires
 open-copy-requires c κs = search needs
 
 turn-code-requires : tie.Need-turn-code-requires
-turn-code-requires c κs =
-    let a = c .before .before .before .before .before .before .before .before .before .before .before .before .before .before .before .args in
-    let s = c .before .before .before .before .before .before .before .session-in in
-    let t = c .before .before .before .before .open-copy in
-    let H : Matrix = matrix (a .n) (a .m) (a .rho) (a .gamma) (a .list .now) in
-    let w : List ℕ = a .word .now in
-    let ls : List ℤ = a .levels .now in
-    let T : Setting = settingOf (c .before .before .before .before .before .before .before .before .before .setting-of .result) in (
-      c .before .before .before .before .before .before .before .before .before .before .if1 .left,
-      subst Small (sym (t .ensures .says))
-          (open-small H T (a .samples .now) (lent (recordOf (s .result)) w ls)),
-    )
+turn-code-requires c κs = (
+  c .before .before .before .before .before .before .before .before .before .before .if1 .left,
+  subst Small (sym (c .before .before .before .before .open-copy .ensures .says)) (open-small _ _ _ _),
+)
 
 same-length : tie.Need-same-length
 same-length c = search needs

@@ -5,7 +5,6 @@ use Prim.Native.Nat.{ℕ}
 use lib.IntN.{ℤ}
 use Rattle.matrix.specs.Paper.Code.{Matrix, matrix}
 use Rattle.session_record.specs.Paper.Record.{Record}
-use Rattle.session_record.specs.Paper.Sessions.{recordOf}
 use Rattle.session.specs.Paper.Call.{Leaves}
 use Rattle.session_asking.specs.Paper.Asked.{Held}
 use Rattle.session.specs.Paper.Steps.{stepOf}
@@ -27,17 +26,10 @@ step-copy-requires : tie.Need-step-copy-requires
 step-copy-requires c κs = search needs
 
 turn-code-requires : tie.Need-turn-code-requires
-turn-code-requires c κs =
-    let a = c .before .before .before .before .before .before .before .before .before .before .before .before .before .before .args in
-    let s = c .before .before .before .before .before .before .before .session-in in
-    let t = c .before .before .before .before .step-copy in
-    let H : Matrix = matrix (a .n) (a .m) (a .rho) (a .gamma) (a .list .now) in
-    let w : List ℕ = a .word .now in
-    let ls : List ℤ = a .levels .now in (
-      c .before .before .before .before .before .before .before .before .before .if1 .left,
-      subst Small (sym (t .ensures .says))
-          (step-small H (a .received .now) (lent (recordOf (s .result)) w ls)),
-    )
+turn-code-requires c κs = (
+  c .before .before .before .before .before .before .before .before .before .if1 .left,
+  subst Small (sym (c .before .before .before .before .step-copy .ensures .says)) (step-small _ _ _),
+)
 
 same-length : tie.Need-same-length
 same-length c = search needs
