@@ -1,6 +1,5 @@
 -- `byte_numbers::number16` meets its contract. Assumes nothing.
-use mathlib.Core.Path.{ap₂}
-use Prim.Native.Nat.{ℕ, _+_, _*_}
+use native.Mathlib.Omega.{arith}
 use borrow.Author.Needs.{needs}
 use Rattle.byte_numbers.specs.Paper.Numbers.{number16}
 use Rattle.byte_numbers.proofs.number16.Statement.{statement}
@@ -29,7 +28,7 @@ add-result c = search needs
 
 returns : tie.Need-returns
 unfolding number16
-returns c = ap₂ (λ (a b : ℕ). a + 256 * b) (c .before .before .wide .ensures .0) (c .wide2 .ensures .0)
+returns c = omega (arith, c .before .before .wide .ensures .0, c .wide2 .ensures .0)
 
 pub number16-spec : {M : Type 1} → statement M
 number16-spec =

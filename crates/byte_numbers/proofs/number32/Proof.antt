@@ -1,6 +1,5 @@
 -- `byte_numbers::number32` meets its contract. Assumes nothing.
-use mathlib.Core.Path.{ap₂}
-use Prim.Native.Nat.{ℕ, _+_, _*_}
+use native.Mathlib.Omega.{arith}
 use borrow.Author.Needs.{needs}
 use Rattle.byte_numbers.specs.Paper.Numbers.{number32}
 use Rattle.byte_numbers.proofs.number32.Statement.{statement}
@@ -29,7 +28,7 @@ add-result c = search needs
 
 returns : tie.Need-returns
 unfolding number32
-returns c = ap₂ (λ (a b : ℕ). a + 65536 * b) (c .before .number16 .ensures) (c .number162 .ensures)
+returns c = omega (arith, c .before .number16 .ensures, c .number162 .ensures)
 
 pub number32-spec : {M : Type 1} → statement M
 number32-spec =
