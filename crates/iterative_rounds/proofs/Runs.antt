@@ -2,7 +2,7 @@
 --   lent-holds     == arrays that are lent to the rounds hold the state that they stand for
 --   holds-alike    == arrays that hold a state stand for one like it
 --   alike-holds    == arrays that hold a state hold every state like it
---   holds-lent     == arrays that hold a state may be lent to a round
+--   lent-again     == arrays that hold a state may be lent to a round again
 --   moved-word     == the bits after a pass are a word
 --   Going          == what holds after k rounds of the loop
 --   going-starts   == it holds before the first round
@@ -65,9 +65,9 @@ alike-holds n L z x s t h a =
       within = λ j l. rw (a .levels j l) at (h .within j l);
     }
 
--- they may be lent to a round
-pub holds-lent : (H : Matrix) (L : ℕ) (z x : List ℕ) (s : State) (z₀ x₀ : List ℕ) → RunLent H L z₀ x₀ → Holds (H .n) L z x s → RunLent H L z x
-holds-lent H L z x s z₀ x₀ r h =
+-- they may be lent to a round again
+pub lent-again : (H : Matrix) (L : ℕ) (z x : List ℕ) (s : State) (z₀ x₀ : List ℕ) → RunLent H L z₀ x₀ → Holds (H .n) L z x s → RunLent H L z x
+lent-again H L z x s z₀ x₀ r h =
     record {
       matrix = r .matrix;
       largest = r .largest;
@@ -115,7 +115,7 @@ module _ (H : Matrix) (L limit : ℕ) (z₀ x₀ : List ℕ) (r : RunLent H L z�
 
     -- the arrays may then be lent to a round
     pub going-lent : RunLent H L z x
-    going-lent = holds-lent H L z x (stateAt H L (stateOf L z₀ x₀) k) z₀ x₀ r (g .holds)
+    going-lent = lent-again H L z x (stateAt H L (stateOf L z₀ x₀) k) z₀ x₀ r (g .holds)
 
     -- the loop stops here
     pub going-ends : (0 < f → k ≡ limit) → RunLeft H L limit z₀ x₀ z x k f
