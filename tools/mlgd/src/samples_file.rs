@@ -103,7 +103,7 @@ impl SamplesFile {
         let line = without_comment(self.lines.text());
         refuse_percent(place, line)?;
         let comma = self.form.decimal_comma;
-        let separator = self.fields.split(place, line, comma)?;
+        let separator = self.fields.split(place, line, comma, self.form.skip)?;
         let count = self.fields.spans.len();
         if count <= self.form.skip {
             let what = format!("this line has {}", counted(count, "field"));
