@@ -47,6 +47,14 @@ impl Span {
         !self.quoted && !next.quoted && next.start == self.end + 1
     }
 
+    /// From the beginning of this field to the end of another.
+    pub fn to(&self, other: &Span) -> Span {
+        Span {
+            end: other.end,
+            ..*self
+        }
+    }
+
     pub fn of<'a>(&self, line: &'a str) -> &'a str {
         &line[self.start..self.end]
     }
