@@ -1,7 +1,11 @@
 //! How the tool ends: statuses, full disks, lost lines, help.
 
-use crate::common::{program, Folder, SETTING};
+use crate::common::{program, Folder, SETTING, TOOL};
 use generator::{alist, codes};
+use std::fs;
+use std::os::unix::fs::symlink;
+use std::path::Path;
+use std::process::Command;
 
 const GOOD: &str = "0.5,-1,-1,-1,-1,-1,-1\n";
 
@@ -141,6 +145,43 @@ fn lost_programs() {
     assert_eq!(ran.said, expected);
 }
 
+/// From whatever folder it is called, the tool finds the program beside itself, or else that of
+/// the repository in which it was built.
+#[test]
+fn where_the_program_is_found() {
+    // Beside the tool, so that it can be linked: a copy could still be open when it is run.
+    let name = format!("found-{}", std::process::id());
+    let folder = Folder(Path::new(env!("CARGO_TARGET_TMPDIR")).join(name));
+    let heading = "block end rounds failing changed word";
+    for inside in ["other/build/release", "other/target/bin"] {
+        fs::create_dir_all(folder.0.join(inside)).unwrap();
+    }
+    folder.write("h", alist::text(&codes::code_a()));
+    folder.write("y", GOOD);
+    folder.write("printed", format!("{heading}\n0 decoded 1 0 1 00\n"));
+    let tool = folder.0.join("other/build/release/mlgd");
+    fs::hard_link(TOOL, &tool).unwrap();
+    let decode = || {
+        let mut command = Command::new(&tool);
+        command.args("decode --matrix h --samples y --setting".split(' '));
+        let output = command.arg(SETTING).current_dir(&folder.0).output();
+        let output = output.unwrap();
+        (
+            output.status.code(),
+            String::from_utf8(output.stderr).unwrap(),
+        )
+    };
+    let (status, said) = decode();
+    assert_eq!(status, Some(2));
+    assert!(said.starts_with("decode: the proved program"), "{said}");
+    for place in ["target/bin/decode", "build/release/decode"] {
+        let place = folder.0.join("other").join(place);
+        symlink(FAKE, &place).unwrap();
+        assert_eq!(decode().0, Some(0), "{}", place.display());
+        fs::remove_file(place).unwrap();
+    }
+}
+
 #[test]
 fn help_and_version() {
     let folder = folder("help", GOOD);
@@ -149,6 +190,8 @@ fn help_and_version() {
         (&["-h"], "mlgd SUBCOMMAND"),
         (&["--version"], "mlgd 0."),
         (&["decode", "--help"], "mlgd decode --matrix M"),
+        (&["map", "--help"], "mlgd map R.csv"),
+        (&["simulate", "--help"], "mlgd simulate --matrix M"),
         (&["matrix", "--help"], "mlgd matrix M"),
         (&["pack", "--help"], "mlgd pack --matrix M"),
         (&["unpack", "-h"], "mlgd unpack INPUT"),

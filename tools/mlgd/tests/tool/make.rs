@@ -3,7 +3,7 @@
 
 use crate::common::{root, Folder};
 use std::fs;
-use std::os::unix::fs::{symlink, PermissionsExt};
+use std::os::unix::fs::symlink;
 use std::path::{Path, PathBuf};
 use std::process::{Command, Output};
 
@@ -14,12 +14,8 @@ fn found(name: &str) -> PathBuf {
     places.find(|path| path.is_file()).expect(name)
 }
 
-/// A shell script under this name.
-fn script(folder: &Folder, name: &str, lines: &str) {
-    folder.write(name, format!("#!/bin/sh\n{lines}\n"));
-    let path = folder.0.join(name);
-    fs::set_permissions(path, fs::Permissions::from_mode(0o755)).unwrap();
-}
+/// A program that tells how it was called.
+const TELL: &str = concat!(env!("CARGO_MANIFEST_DIR"), "/tests/tell");
 
 /// The Makefile, an rt and a cargo that do nothing, and a tool that tells how it was called. No
 /// python3.
@@ -29,13 +25,17 @@ fn folder(name: &str) -> Folder {
         fs::create_dir_all(folder.0.join(inside)).unwrap();
     }
     fs::copy(root().join("Makefile"), folder.0.join("Makefile")).unwrap();
-    for name in ["mkdir", "cat", "head"] {
-        symlink(found(name), folder.0.join("bin").join(name)).unwrap();
+    let nothing = found("true");
+    for (name, program) in [
+        ("bin/mkdir", found("mkdir")),
+        ("bin/cat", found("cat")),
+        ("bin/head", found("head")),
+        ("bin/rt", nothing.clone()),
+        ("bin/cargo", nothing),
+        ("build/release/mlgd", TELL.into()),
+    ] {
+        symlink(program, folder.0.join(name)).unwrap();
     }
-    script(&folder, "bin/rt", "exit 0");
-    script(&folder, "bin/cargo", "exit 0");
-    let told = "for word; do printf '<%s>' \"$word\"; done; echo";
-    script(&folder, "build/release/mlgd", told);
     folder.write("build/results.csv", "the table\n");
     folder
 }
