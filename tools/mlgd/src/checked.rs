@@ -36,12 +36,12 @@ pub fn matrix(file: &MatrixFile) -> Result<(), Fault> {
     }
 }
 
-/// A fault at a place of the file, if it has that place.
+/// A fault at a place of the file, or at its first row if it does not have that place.
 fn at(file: &MatrixFile, place: Option<At>, what: String, remedy: &str) -> Fault {
     let fault = Fault::new(&file.file, what).remedy(remedy);
     match place {
         Some((line, field)) => fault.line(line).field(field),
-        None => fault,
+        None => fault.line(file.line_of_row(0)),
     }
 }
 

@@ -1,6 +1,6 @@
 //! Bare rows: a line of columns for each row, sizes derived.
 
-use super::{weight_of_columns, At, Form, Matrix, MatrixFile};
+use super::{weight_of_columns, At, Form, Matrix, MatrixFile, Ones};
 use crate::amount::counted;
 use crate::fault::Fault;
 use crate::text::{Line, Text};
@@ -20,8 +20,16 @@ pub(super) fn read(text: &Text, from_one: bool) -> Result<MatrixFile, Fault> {
         }
         read.row(line)?;
     }
-    let n = usize::from(read.list.iter().copied().max().unwrap_or(0)) + 1;
-    let gamma = weight_of_columns(text, n, &read.list, read.first)?;
+    let largest = read.list.iter().zip(&read.entries).max();
+    let n = largest.map_or(0, |(&column, _)| usize::from(column)) + 1;
+    let n_at = largest.map(|(_, &at)| at);
+    let m_at = read.entries.last().copied();
+    let ones = Ones {
+        list: &read.list,
+        entries: &read.entries,
+        first: read.first,
+    };
+    let gamma = weight_of_columns(text, n, ones)?;
     let matrix = Matrix {
         n: size(text, n, "n")?,
         m: size(text, text.lines.len(), "m")?,
@@ -34,7 +42,7 @@ pub(super) fn read(text: &Text, from_one: bool) -> Result<MatrixFile, Fault> {
         form: Form::Rows,
         matrix,
         first: read.first,
-        sizes: [None; 4],
+        sizes: [n_at, m_at, None, None],
         entries: read.entries,
     })
 }
