@@ -173,9 +173,13 @@ fn accepted(setting: &Setting, name: &str) -> Result<(), Fault> {
             format!("the kind of step is {}", setting.kind),
             "give level-step or full-scale",
         ),
-        _ => (
-            format!("the step is from 2^-20 to 2^20, and not {}", setting.step),
-            "scale samples and step alike",
+        Setting { kind, step, .. } => (
+            format!("the step is from 2^-20 to 2^20, and not {step}"),
+            match (*step > 0.0 && step.is_finite(), kind) {
+                (true, _) => "scale samples and step alike",
+                (false, 0) => "give one above 0, such as level-step 0.1",
+                (false, _) => "give one above 0, such as full-scale 4",
+            },
         ),
     };
     Err(Fault::new(name, what).remedy(remedy))

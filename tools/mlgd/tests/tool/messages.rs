@@ -107,6 +107,19 @@ fn the_remedies_help() {
     }
 }
 
+/// Zeros and ones are read without the line of sizes before them.
+#[test]
+fn without_the_sizes_line() {
+    let new = Folder::new("no-sizes");
+    let expected = fs::read_to_string(folder().join("a.list")).unwrap();
+    for file in ["size_before", "sizes_before", "four_sizes_before"] {
+        let text = fs::read_to_string(folder().join(format!("{file}.dense"))).unwrap();
+        new.write("h", text.split_once('\n').unwrap().1);
+        let found = new.run_line("matrix h --to list");
+        assert_eq!(found.text(), expected, "{file}");
+    }
+}
+
 /// The same files are read once the message's own command has been run on them.
 #[test]
 fn the_command_of_a_remedy_helps() {
