@@ -102,6 +102,25 @@ fn a_full_disk_behind_standard_output() {
     }
 }
 
+/// A table that does not go onto its disk, here by a limit on the sizes of files: the message says
+/// that an older one stays, and so it does.
+#[test]
+fn a_table_that_is_too_large() {
+    let folder = folder("too-large", &GOOD.repeat(100));
+    folder.write("r", "an old table\n");
+    let script = "trap '' XFSZ && ulimit -f 1 && exec \"$0\" \"$@\"";
+    let line = "decode --one-step --matrix h --samples y --out r";
+    let mut command = Command::new("sh");
+    command.args(["-c", script, TOOL]).args(line.split(' '));
+    let output = command.current_dir(&folder.0).output().unwrap();
+    assert_eq!(output.status.code(), Some(2), "{output:?}");
+    let said = String::from_utf8(output.stderr).unwrap();
+    let stays = ": nothing was written under this name, and an older file stays as it was\n";
+    assert!(said.starts_with("r: ") && said.ends_with(stays), "{said}");
+    assert_eq!(folder.read("r"), "an old table\n");
+    assert_eq!(folder.parts(), 0);
+}
+
 /// A program that prints what the file `printed` says.
 const FAKE: &str = concat!(env!("CARGO_MANIFEST_DIR"), "/tests/fake");
 
@@ -200,6 +219,8 @@ fn help_and_version() {
         assert_eq!((ran.status, ran.said.as_str()), (0, ""), "{words:?}");
         assert!(ran.text().starts_with(begins), "{}", ran.text());
     }
+    let help = folder.run(&["decode", "--help"]).text();
+    assert!(help.contains("leaves R.PROCESS.part"), "{help}");
 }
 
 #[test]
@@ -306,7 +327,10 @@ fn one_step() {
 fn one_step_on_samples() {
     let folder = Folder::new("one-step-samples");
     folder.write("a", alist::text(&codes::code_a()));
-    folder.write("y", "1,-1,0.2,-1,1,3,1\nnan,1,1,1,1,1,1\n");
+    folder.write(
+        "y",
+        "1,-1,0.2,-1,1,3,1\nnan,1,1,1,1,1,1\n1,1,-inf,1,1,1,1\n",
+    );
     let line = "decode --one-step --matrix a --samples y --out r";
     let ran = folder.run_line(line);
     assert_eq!(ran.status, 1);
@@ -320,7 +344,32 @@ fn one_step_on_samples() {
     assert_eq!(rows[0], "1,0,decoded,1,0,1,1,yes,,x2e");
     assert_eq!(
         rows[1],
-        "2,1,refused,,,,,no,sample 1 is no finite number: send the block again,"
+        "2,1,refused,,,,,no,sample 1 (column A) is not a number: send the block again,"
+    );
+    assert_eq!(
+        rows[2],
+        "3,2,refused,,,,,no,sample 3 (column C) is infinite: send the block again,"
     );
     assert_eq!(folder.run_line(&format!("{line} --setting s")).status, 2);
+}
+
+/// Where the spreadsheet has that sample: after labels, or in no column of its own line.
+#[test]
+fn one_step_on_labelled_samples() {
+    let folder = Folder::new("one-step-labels");
+    folder.write("a", alist::text(&codes::code_a()));
+    let line = "decode --one-step --matrix a --samples y --out r";
+    for (samples, options, place) in [
+        (
+            "x;1;1;1;nan;1;1;1\n",
+            " --skip-columns 1",
+            "sample 4 (column E)",
+        ),
+        ("1;1;1\n1;1;1;inf\n", "", "sample 7"),
+    ] {
+        folder.write("y", samples);
+        assert_eq!(folder.run_line(&format!("{line}{options}")).status, 1);
+        let table = folder.read("r");
+        assert!(table.contains(&format!(",no,{place} is ")), "{table}");
+    }
 }
