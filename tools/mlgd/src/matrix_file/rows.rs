@@ -7,19 +7,7 @@ use crate::text::{Line, Text};
 
 pub(super) fn read(text: &Text, from_one: bool) -> Result<MatrixFile, Fault> {
     let rho = text.lines[0].len();
-    let mut read = Entries::new(text, from_one);
-    for (i, line) in text.lines.iter().enumerate() {
-        if line.len() != rho {
-            let what = format!(
-                "row {} has {} and row {} has {rho}: the decoder takes rows of one weight",
-                i + read.first,
-                counted(line.len(), "column"),
-                read.first
-            );
-            return Err(text.of_line(line, what, "is a number missing, or one too many?"));
-        }
-        read.row(line)?;
-    }
+    let read = rows(text, rho, from_one)?;
     let largest = read.list.iter().zip(&read.entries).max();
     let n = largest.map_or(0, |(&column, _)| usize::from(column)) + 1;
     let n_at = largest.map(|(_, &at)| at);
@@ -45,6 +33,24 @@ pub(super) fn read(text: &Text, from_one: bool) -> Result<MatrixFile, Fault> {
         sizes: [n_at, m_at, None, None],
         entries: read.entries,
     })
+}
+
+/// Rows that have rho columns each.
+fn rows(text: &Text, rho: usize, from_one: bool) -> Result<Entries<'_>, Fault> {
+    let mut read = Entries::new(text, from_one);
+    for (i, line) in text.lines.iter().enumerate() {
+        if line.len() != rho {
+            let what = format!(
+                "row {} has {} and row {} has {rho}: the decoder takes rows of one weight",
+                i + read.first,
+                counted(line.len(), "column"),
+                read.first
+            );
+            return Err(text.of_line(line, what, "is a number missing, or one too many?"));
+        }
+        read.row(line)?;
+    }
+    Ok(read)
 }
 
 /// A size that goes into 16 bits.
