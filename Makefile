@@ -1,5 +1,5 @@
 # The shed-link block decoder. `make run` shows it working, `make test` checks everything, `make bench` measures it.
-.PHONY: run test bench fuzz audit prove staticlib mlgd reference decode tools
+.PHONY: run test bench fuzz audit prove staticlib mlgd reference decode tools python
 
 # Checks of crates and must-fail edits that run at a time, each in about 1 GB: more than the processors, since those of a batch wait for its longest.
 export RT_JOBS ?= 8
@@ -9,21 +9,22 @@ MATRIX ?= examples/tanner155.alist
 SAMPLES ?= examples/blocks.csv
 SETTING ?= bits 8 limit 64 level-step 0.1
 RESULTS ?= build/results.csv
+OPTIONS ?=
 MAP ?= $(basename $(RESULTS)).svg
 
 # Decodes SAMPLES by MATRIX and SETTING, the example block set without them, into the table RESULTS and its picture MAP.
-# Blocks that stay open (status 1) are no fault.
+# OPTIONS are further ones of `mlgd decode`, such as --header --skip-columns 2. Blocks that stay open (status 1) are no fault.
 run: tools
 	@echo "The first run proves and builds all it needs, which takes three to four minutes (build/run.log tells how far it is); later runs take seconds."
 	@mkdir -p build && rt check decode ffi_codes session_open session_step one_step failing_checks >build/run.log || { cat build/run.log; exit 1; }
 	@$(MAKE) --no-print-directory target/staticlib/libffi.a mlgd >>build/run.log || { cat build/run.log; exit 1; }
-	build/release/mlgd decode --matrix "$(MATRIX)" --setting "$(SETTING)" --samples "$(SAMPLES)" --out "$(RESULTS)" || test $$? -eq 1
+	build/release/mlgd decode --matrix "$(MATRIX)" --setting "$(SETTING)" --samples "$(SAMPLES)" --out "$(RESULTS)" $(OPTIONS) || test $$? -eq 1
 	build/release/mlgd map "$(RESULTS)" --out "$(MAP)"
 	@head -n 20 "$(RESULTS)"
 	@echo "The table is $(RESULTS), for a spreadsheet; its map is $(MAP), for a browser."
 
 # The layout, the drawn pages, the gate from nothing, then the Rust tests on what it proved: its 'N passed, 0 failed' is the last line.
-test: tools
+test: tools python
 	tools/gate
 
 # One archive more: the core of one-step voting, which nobody but the benchmark links.
@@ -62,13 +63,17 @@ decode:
 
 # Every must-fail edit, also those of crates/NAME/audit, which the gate leaves out; then those whose refusal shows nothing.
 # Before, that each applies and says which fact is then false: that alone is `python3 tools/audit.py --headers`.
-audit: tools
+audit: tools python
 	python3 tools/audit.py --headers
 	rm -rf target/audit && mkdir -p target/audit && cp -R crates crates.txt target/audit
 	cd target/audit && for d in crates/*/audit; do mkdir -p $$d/../must-fail && mv $$d/*.edit $$d/../must-fail; done
 	cd target/audit && rt must-fail && python3 ../../tools/audit.py
 
+# What every target needs.
 tools:
-	@command -v python3 >/dev/null || { echo "python3 is missing: the checks of the documents and of the edits need it" >&2; exit 1; }
 	@command -v rt >/dev/null || { echo "the Rattle toolchain is missing: 'rt' is not on the PATH" >&2; exit 1; }
-	@command -v cargo >/dev/null || { echo "cargo is missing: install Rust to build the tests" >&2; exit 1; }
+	@command -v cargo >/dev/null || { echo "cargo is missing: install Rust to build the tool and the tests" >&2; exit 1; }
+
+# What `test` and `audit` need beside that.
+python:
+	@command -v python3 >/dev/null || { echo "python3 is missing: the checks of the documents and of the edits need it" >&2; exit 1; }

@@ -36,12 +36,12 @@ pub fn matrix(file: &MatrixFile) -> Result<(), Fault> {
     }
 }
 
-/// A fault at a place of the file, if it has that place.
+/// A fault at a place of the file, or at its first row if it does not have that place.
 fn at(file: &MatrixFile, place: Option<At>, what: String, remedy: &str) -> Fault {
     let fault = Fault::new(&file.file, what).remedy(remedy);
     match place {
         Some((line, field)) => fault.line(line).field(field),
-        None => fault,
+        None => fault.line(file.line_of_row(0)),
     }
 }
 
@@ -173,9 +173,13 @@ fn accepted(setting: &Setting, name: &str) -> Result<(), Fault> {
             format!("the kind of step is {}", setting.kind),
             "give level-step or full-scale",
         ),
-        _ => (
-            format!("the step is from 2^-20 to 2^20, and not {}", setting.step),
-            "scale samples and step alike",
+        Setting { kind, step, .. } => (
+            format!("the step is from 2^-20 to 2^20, and not {step}"),
+            match (*step > 0.0 && step.is_finite(), kind) {
+                (true, _) => "scale samples and step alike",
+                (false, 0) => "give one above 0, such as level-step 0.1",
+                (false, _) => "give one above 0, such as full-scale 4",
+            },
         ),
     };
     Err(Fault::new(name, what).remedy(remedy))

@@ -7,12 +7,12 @@ use crate::matrix_file::{Matrix, MatrixFile};
 use crate::output::{keep_apart, print, tell, Output};
 use crate::program::{refuse_odd_word, BlockLine, Program};
 use crate::progress::Progress;
-use crate::report::{refused, Ended, Promise, Totals};
+use crate::report::{not_finite, refused, Ended, Promise, Totals};
 use crate::results::COLUMNS;
 use crate::samples_file::{Form, SamplesFile};
 use crate::setting::Setting;
 use crate::status::Status;
-use crate::{checked, fields, one_step, stream, word};
+use crate::{checked, one_step, stream, word};
 use std::collections::VecDeque;
 use std::thread::{self, ScopedJoinHandle};
 
@@ -28,13 +28,15 @@ line, block, outcome, rounds, failing, changed, wrong_bits, within_half, reason,
                   with them
 --samples X       numbers, n to a block: CSV with , or ; or tabs, or blanks; - is standard input.
                   nan and inf are read and the block is refused; # begins a comment
---out R           the table, which gets its name when it is whole; standard output without it
+--out R           the table, which gets its name when it is whole; standard output without it.
+                  A run that is broken off from outside leaves R.PROCESS.part: take it away
 --header          the first line of X is a heading
 --skip-columns K  the first K fields of each line are labels
 --decimal-comma   numbers are written 0,5
 --from-one        a list or bare rows count columns from 1
 --jobs N          N runs of the program at a time (1 to 64)
---program PATH    the proved program; else decode beside mlgd, or target/bin/decode
+--program PATH    the proved program; else decode beside mlgd, or target/bin/decode of the
+                  repository in which mlgd was built, or here
 --one-step        one-step voting on hard bits, by the proved library; no setting
 --words W         received words, one a line: hexadecimal, or zeros and ones
 --strict          status 1 also where a block is decoded beyond the half
@@ -286,7 +288,8 @@ impl Decoder {
             let row = match answer {
                 BlockLine::Refused(place) => {
                     let column = batch.one_line.then_some(self.skip + place + 1);
-                    refused(line, block, not_finite(samples, place, column))
+                    let sample = stream::samples(samples).nth(place).unwrap_or(f32::NAN);
+                    refused(line, block, not_finite(sample, place, column))
                 }
                 BlockLine::Ended(answer, word) => {
                     refuse_odd_word(&word, &self.matrix, block)?;
@@ -316,20 +319,4 @@ impl Decoder {
         totals.weak_blocks += usize::from(weak);
         weak
     }
-}
-
-/// The reason for refusal 8, with the spreadsheet's column where a block is one line.
-fn not_finite(block: &[u8], place: usize, column: Option<usize>) -> String {
-    let sample = stream::samples(block).nth(place).unwrap_or(f32::NAN);
-    let what = if sample.is_nan() {
-        "not a number"
-    } else {
-        "infinite"
-    };
-    let column = column.map(|column| format!(" (column {})", fields::column_letters(column)));
-    let column = column.unwrap_or_default();
-    format!(
-        "sample {}{column} is {what}: send the block again",
-        place + 1
-    )
 }

@@ -47,6 +47,14 @@ impl Span {
         !self.quoted && !next.quoted && next.start == self.end + 1
     }
 
+    /// From the beginning of this field to the end of another.
+    pub fn to(&self, other: &Span) -> Span {
+        Span {
+            end: other.end,
+            ..*self
+        }
+    }
+
     pub fn of<'a>(&self, line: &'a str) -> &'a str {
         &line[self.start..self.end]
     }
@@ -68,31 +76,45 @@ struct Seen {
 }
 
 impl Fields {
-    /// Splits a line, and says by what.
+    /// Splits a line, and says by what. Its first `labels` fields may have other separators in
+    /// them.
     pub fn split(
         &mut self,
         place: Place,
         line: &str,
         decimal_comma: bool,
+        labels: usize,
     ) -> Result<Separator, Fault> {
         let seen = look(line, decimal_comma);
-        if seen.quotes % 2 == 1 {
-            let remedy = "close it, or take the quotation marks away";
-            return Err(place.fault("a quotation mark is open at the line's end", remedy));
-        }
-        let separator = seen.separator(place)?;
+        let separator = match seen.separator(place) {
+            Ok(separator) => separator,
+            Err(fault) => alone_after(line, decimal_comma, labels).ok_or(fault)?,
+        };
+        self.split_by(place, line, separator)?;
+        Ok(separator)
+    }
+
+    /// Splits a line by what is known to separate its fields.
+    pub fn split_by(
+        &mut self,
+        place: Place,
+        line: &str,
+        separator: Separator,
+    ) -> Result<(), Fault> {
         self.spans.clear();
-        let (mut start, mut quoted) = (0, false);
-        for (at, byte) in line.bytes().enumerate() {
-            if byte == b'"' {
-                quoted = !quoted;
-            } else if separator.is(byte) && !quoted {
-                self.push(line, start, at, separator);
-                start = at + 1;
-            }
+        let mut start = 0;
+        for at in places(line, separator) {
+            self.push(line, start, at, separator);
+            start = at + 1;
         }
         self.push(line, start, line.len(), separator);
-        Ok(separator)
+        match line.matches('"').count() % 2 {
+            0 => Ok(()),
+            _ => {
+                let remedy = "close it, or take the quotation marks away";
+                Err(place.fault("a quotation mark is open at the line's end", remedy))
+            }
+        }
     }
 
     /// Keeps one field, without the blanks and quotation marks around it.
@@ -115,6 +137,27 @@ impl Fields {
         }
         self.spans.push(Span { start, end, quoted });
     }
+}
+
+/// Where a separator stands, outside of quotation marks.
+fn places(line: &str, separator: Separator) -> impl Iterator<Item = usize> + '_ {
+    let mut quoted = false;
+    line.bytes().enumerate().filter_map(move |(at, byte)| {
+        quoted ^= byte == b'"';
+        (separator.is(byte) && !quoted).then_some(at)
+    })
+}
+
+/// The separator that has no other beside it after so many labels, whatever stands in them. There
+/// is one at most: the labels of two would end at different places, and the earlier ones' rest has
+/// the other separator in it.
+fn alone_after(line: &str, decimal_comma: bool, labels: usize) -> Option<Separator> {
+    let last = labels.checked_sub(1)?;
+    let all = [Separator::Comma, Separator::Semicolon, Separator::Tab];
+    all.into_iter().find(|&separator| {
+        let end = places(line, separator).nth(last);
+        end.is_some_and(|end| look(&line[end + 1..], decimal_comma).has_but(separator))
+    })
 }
 
 /// Finds the separators of a line.
@@ -140,6 +183,18 @@ fn look(line: &str, decimal_comma: bool) -> Seen {
 }
 
 impl Seen {
+    /// Whether there is none but this one.
+    fn has_but(&self, separator: Separator) -> bool {
+        let others = [
+            (Separator::Comma, self.comma),
+            (Separator::Semicolon, self.semicolon),
+            (Separator::Tab, self.tab),
+        ];
+        others
+            .iter()
+            .all(|&(other, seen)| other == separator || !seen)
+    }
+
     /// The one separator of the line.
     fn separator(&self, place: Place) -> Result<Separator, Fault> {
         match (self.comma, self.semicolon, self.tab) {
@@ -205,8 +260,16 @@ mod tests {
     const PLACE: Place = Place { file: "t", line: 1 };
 
     fn split(line: &str, decimal_comma: bool) -> Result<(Separator, Vec<String>), String> {
+        after_labels(line, decimal_comma, 0)
+    }
+
+    fn after_labels(
+        line: &str,
+        decimal_comma: bool,
+        labels: usize,
+    ) -> Result<(Separator, Vec<String>), String> {
         let mut fields = Fields::default();
-        let separator = fields.split(PLACE, line, decimal_comma);
+        let separator = fields.split(PLACE, line, decimal_comma, labels);
         let separator = separator.map_err(|fault| fault.to_string())?;
         let texts = fields.spans.iter().map(|span| span.of(line).to_string());
         Ok((separator, texts.collect()))
@@ -236,6 +299,31 @@ mod tests {
     fn mixtures() {
         for line in ["0,5;1", "0,5\t1", "0;5\t1", "0,5;1\t2", "\"0.5"] {
             assert!(split(line, false).is_err(), "{line}");
+        }
+    }
+
+    /// What stands in a label is no separator.
+    #[test]
+    fn mixtures_in_labels() {
+        for (line, labels, separator, first) in [
+            (
+                "Soho, London;0.5;-1",
+                1,
+                Separator::Semicolon,
+                "Soho, London",
+            ),
+            ("Soho; London,0.5,-1", 1, Separator::Comma, "Soho; London"),
+            ("a,b;c\t0.5\t-1", 1, Separator::Tab, "a,b;c"),
+            ("7;Soho, London;0.5", 2, Separator::Semicolon, "7"),
+            ("x;y,z;0.5,-1", 2, Separator::Comma, "x;y"),
+        ] {
+            let (found, fields) = after_labels(line, false, labels).unwrap();
+            assert_eq!((found, fields[0].as_str()), (separator, first), "{line}");
+        }
+        let (found, _) = after_labels("\"a\",b;0,5;-1,0", true, 1).unwrap();
+        assert_eq!(found, Separator::Semicolon);
+        for (line, labels) in [("a;0,5;-1,0", 1), ("a, b;0.5;-1", 0), ("a, b;0.5", 2)] {
+            assert!(after_labels(line, false, labels).is_err(), "{line}");
         }
     }
 

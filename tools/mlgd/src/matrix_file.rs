@@ -73,7 +73,7 @@ pub struct MatrixFile {
     pub matrix: Matrix,
     /// What the file calls the first row and column: 0 or 1.
     pub(crate) first: usize,
-    /// Where n, m, rho and gamma stand, if they do.
+    /// Where n, m, rho and gamma stand or follow from, if there is such a place.
     pub(crate) sizes: [Option<At>; 4],
     /// Where each entry of the list stands.
     pub(crate) entries: Vec<At>,
@@ -135,6 +135,19 @@ fn zeros_and_ones(line: &Line) -> bool {
     line.fields().all(bits) && (line.len() == 1 || line.fields().all(|field| field.len() == 1))
 }
 
+/// Whether lines of as many zeros and ones as a size says stand under sizes. A list of the one row
+/// 0 1 has rho columns in each line.
+fn sizes_before_bits(head: &[u64], rows: &[Line]) -> bool {
+    let Some(row) = rows.first() else {
+        return false;
+    };
+    let width = dense::width(row);
+    let bits = |line: &Line| zeros_and_ones(line) && dense::width(line) == width;
+    let is_list = head.len() == 4 && head[2] == row.len() as u64;
+    let is_size = head.len() <= 4 && head.contains(&(width as u64));
+    is_size && !is_list && rows.iter().all(bits)
+}
+
 /// Tells the forms apart. An accepted list's first line never ascends: rho is at most n.
 fn form_of(text: &Text) -> Result<Form, Fault> {
     let Some(first) = text.lines.first() else {
@@ -151,6 +164,10 @@ fn form_of(text: &Text) -> Result<Form, Fault> {
     let alike = text.lines.iter().all(|line| line.len() == first.len());
     let head = numbers(first).unwrap_or_default();
     let ascends = head.windows(2).all(|pair| pair[0] < pair[1]);
+    if !(alike && ascends && head.len() > 1) && sizes_before_bits(&head, &text.lines[1..]) {
+        let what = "a line of sizes before zeros and ones".to_string();
+        return Err(text.of_line(first, what, "leave the sizes line out"));
+    }
     match head[..] {
         [_, _] if !(alike && ascends) => Ok(Form::Alist),
         [n, m, rho, gamma] => {
@@ -163,34 +180,49 @@ fn form_of(text: &Text) -> Result<Form, Fault> {
     }
 }
 
-/// The gamma that the ones of all rows make, if the columns can have one weight. `first` is what
-/// the file calls the first column.
-fn weight_of_columns(text: &Text, n: usize, rows: &[u16], first: usize) -> Result<u16, Fault> {
-    let gamma = rows.len() / n.max(1);
-    if rows.len() == gamma * n {
+/// The columns of all rows, with their places; `first` is what the file calls the first column.
+struct Ones<'a> {
+    list: &'a [u16],
+    entries: &'a [At],
+    first: usize,
+}
+
+/// The gamma that the ones of all rows make, if the columns can have one weight.
+fn weight_of_columns(text: &Text, n: usize, ones: Ones) -> Result<u16, Fault> {
+    let gamma = ones.list.len() / n.max(1);
+    if ones.list.len() == gamma * n {
         let too_many = || text.at_end("there are too many rows".into(), "is this the right file?");
         return u16::try_from(gamma).map_err(|_| too_many());
     }
     let mut weights = vec![0; n];
-    for &column in rows {
+    for &column in ones.list {
         weights[usize::from(column)] += 1;
     }
-    let other = weights
-        .iter()
-        .position(|&weight| weight != weights[0])
-        .unwrap_or(0);
+    Err(unlike_columns(text, &weights, ones))
+}
+
+/// Two columns of unlike weight, at the place where one of them stands last; a column without rows
+/// stands nowhere.
+fn unlike_columns(text: &Text, weights: &[usize], ones: Ones) -> Fault {
+    let unlike = |&weight: &usize| weight != weights[0];
+    let other = weights.iter().position(unlike).unwrap_or(0);
     let what = format!(
-        "column {first} stands in {} and column {} in {}: \
-         the decoder takes columns of one weight",
+        "column {} stands in {} and column {} in {}: the decoder takes columns of one weight",
+        ones.first,
         counted(weights[0], "row"),
-        other + first,
+        other + ones.first,
         weights[other]
     );
-    let remedy = match weights[0] {
-        0 => COUNTED_FROM_1,
-        _ => "take a regular code",
+    let (odd, remedy) = match (weights[0], ones.first) {
+        (0, 0) => (0, COUNTED_FROM_1),
+        (0, _) => (0, "take a regular code"),
+        _ => (other, "take a regular code"),
     };
-    Err(Fault::new(&text.file, what).remedy(remedy))
+    let mut places = ones.list.iter().zip(ones.entries);
+    match places.rfind(|(&column, _)| usize::from(column) == odd) {
+        Some((_, &(line, field))) => text.place(line).at(field, what, remedy),
+        None => text.of_line(&text.lines[0], what, remedy),
+    }
 }
 
 pub(crate) const COUNTED_FROM_1: &str = "counted from 1? Then give --from-one";

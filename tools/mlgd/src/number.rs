@@ -82,7 +82,8 @@ pub fn complaint(written: &str, decimal_comma: bool) -> (String, &'static str) {
         return (said("is a missing value"), missing);
     }
     if decimal_comma && written.matches(',').count() > 1 {
-        let remedy = "if commas separate the fields, leave --decimal-comma out";
+        let remedy = "if commas separate the fields, leave --decimal-comma out; \
+                      if they do both, save it with ; or tabs between the fields";
         return (said("has several commas beside --decimal-comma"), remedy);
     }
     if decimal_comma && written.contains('.') {

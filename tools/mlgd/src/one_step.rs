@@ -7,7 +7,7 @@ use crate::fault::Fault;
 use crate::matrix_file::Matrix;
 use crate::output::{keep_apart, tell, Output};
 use crate::progress::Progress;
-use crate::report::{refused, Ended, Promise, Totals};
+use crate::report::{not_finite, refused, Ended, Promise, Totals};
 use crate::results::{Row, COLUMNS};
 use crate::samples_file::SamplesFile;
 use crate::word::distance;
@@ -16,8 +16,8 @@ use crate::words_file::WordsFile;
 /// Where the words come from.
 enum Source {
     Words(WordsFile),
-    /// The hard bits of samples.
-    Samples(SamplesFile, Vec<f32>),
+    /// The hard bits of samples, with so many labels before them.
+    Samples(SamplesFile, usize, Vec<f32>),
 }
 
 /// A received word, or why there is none.
@@ -31,8 +31,9 @@ impl Source {
                 Ok(Source::Words(WordsFile::open(words, n, header)?))
             }
             (None, Some(samples)) => {
-                let file = SamplesFile::open(samples, n, form(arguments)?)?;
-                Ok(Source::Samples(file, Vec::new()))
+                let form = form(arguments)?;
+                let file = SamplesFile::open(samples, n, form)?;
+                Ok(Source::Samples(file, form.skip, Vec::new()))
             }
             _ => Err(arguments.misused("--one-step needs --words or --samples, and one of them")),
         }
@@ -42,9 +43,10 @@ impl Source {
     fn next(&mut self) -> Result<Option<(usize, Received)>, Fault> {
         match self {
             Source::Words(file) => Ok(file.next_word()?.map(|(line, word)| (line, Ok(word)))),
-            Source::Samples(file, samples) => {
+            Source::Samples(file, skip, samples) => {
                 let line = file.next_block(samples)?;
-                Ok(line.map(|line| (line, hard_bits(samples))))
+                let before = (file.lines_of_block() == 1).then_some(*skip);
+                Ok(line.map(|line| (line, hard_bits(samples, before))))
             }
         }
     }
@@ -52,18 +54,17 @@ impl Source {
     fn share(&self) -> Option<f64> {
         match self {
             Source::Words(file) => file.share(),
-            Source::Samples(file, _) => file.share(),
+            Source::Samples(file, _, _) => file.share(),
         }
     }
 }
 
-/// The hard bits of a block as a word; a sample that is not finite has none.
-fn hard_bits(samples: &[f32]) -> Received {
+/// The hard bits of a block as a word; a sample that is not finite has none. `before` says how many
+/// labels stand before it where a block is one line.
+fn hard_bits(samples: &[f32], before: Option<usize>) -> Received {
     if let Some(place) = samples.iter().position(|sample| !sample.is_finite()) {
-        return Err(format!(
-            "sample {} is no finite number: send the block again",
-            place + 1
-        ));
+        let column = before.map(|labels| labels + place + 1);
+        return Err(not_finite(samples[place], place, column));
     }
     let byte = |eight: &[f32]| {
         let bits = eight.iter().enumerate();

@@ -40,14 +40,14 @@ impl Output {
 
     pub fn write(&mut self, bytes: &[u8]) -> Result<(), Fault> {
         let written = self.writer.write_all(bytes);
-        written.map_err(|error| Fault::system(&self.name, &error))
+        written.map_err(|error| not_written(&self.name, &error, self.part.is_some()))
     }
 
     /// Sees to it that all is written, and gives the file its name.
     pub fn finish(mut self) -> Result<(), Fault> {
-        let flushed = self.writer.flush();
+        let (flushed, file) = (self.writer.flush(), self.part.is_some());
         let kept = flushed.and_then(|()| self.part.take().map_or(Ok(()), Part::keep));
-        kept.map_err(|error| Fault::system(&self.name, &error))
+        kept.map_err(|error| not_written(&self.name, &error, file))
     }
 }
 
@@ -92,8 +92,22 @@ fn not_created(name: &str, error: &io::Error) -> Fault {
     match error.kind() {
         ErrorKind::NotFound => fault.remedy("make its folder first, or give another name"),
         ErrorKind::PermissionDenied => fault.remedy("give a folder that you may write to"),
+        ErrorKind::StorageFull | ErrorKind::QuotaExceeded => not_written(name, error, true),
         _ => fault,
     }
+}
+
+/// What it says of a write. A file that gets its name when it is whole has not got it then.
+fn not_written(name: &str, error: &io::Error, file: bool) -> Fault {
+    let fault = Fault::system(name, error);
+    let remedy = match error.kind() {
+        _ if !file => return fault,
+        ErrorKind::StorageFull | ErrorKind::QuotaExceeded => "make room and run it again",
+        _ => "look at its disk, and run it again",
+    };
+    fault.remedy(format!(
+        "{remedy}: nothing was written under this name, and an older file stays as it was"
+    ))
 }
 
 /// Writes a text in one go, to standard output for none and for `-`.
@@ -156,4 +170,38 @@ fn place(file: &str) -> Option<PathBuf> {
         folder => folder,
     };
     Some(fs::canonicalize(folder).ok()?.join(path.file_name()?))
+}
+
+#[cfg(test)]
+mod tests {
+    use super::not_written;
+    use std::io::{Error, ErrorKind};
+
+    #[test]
+    fn a_full_disk() {
+        let said = |kind: ErrorKind, file| {
+            let fault = not_written("r.csv", &Error::from(kind), file).to_string();
+            fault.split_once(", ").map(|said| said.1.to_string())
+        };
+        let stays = "nothing was written under this name, and an older file stays as it was";
+        for (kind, file, remedy) in [
+            (
+                ErrorKind::StorageFull,
+                true,
+                format!("make room and run it again: {stays}"),
+            ),
+            (
+                ErrorKind::FileTooLarge,
+                true,
+                format!("look at its disk, and run it again: {stays}"),
+            ),
+            (
+                ErrorKind::StorageFull,
+                false,
+                "make room and run it again: what is there is not whole".into(),
+            ),
+        ] {
+            assert_eq!(said(kind, file), Some(remedy));
+        }
+    }
 }

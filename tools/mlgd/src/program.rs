@@ -37,19 +37,23 @@ impl Program {
                 }
             };
         }
-        let beside = std::env::current_exe().ok();
-        let beside = beside.and_then(|tool| Some(tool.parent()?.join("decode")));
-        let built = Path::new(".").join("target/bin/decode");
-        let known = beside.into_iter().chain([built]);
-        known
-            .into_iter()
-            .find(|path| path.is_file())
-            .map(Program)
-            .ok_or_else(|| {
-                let what = "the proved program `decode` is not beside mlgd and not in target/bin";
-                Fault::new("decode", what)
-                    .remedy("build it (make decode), or name it by --program PATH")
-            })
+        let found = Program::known().into_iter().find(|path| path.is_file());
+        found.map(Program).ok_or_else(|| {
+            let what = "the proved program `decode` is not beside mlgd and not in target/bin";
+            Fault::new("decode", what)
+                .remedy("build it (make decode), or name it by --program PATH")
+        })
+    }
+
+    /// Where it may be: beside this tool; in target/bin of the repository in which this tool was
+    /// built, as build/release/mlgd; in target/bin here.
+    fn known() -> Vec<PathBuf> {
+        let tool = std::env::current_exe().ok();
+        let folder = tool.as_deref().and_then(Path::parent);
+        let near =
+            folder.map(|folder| ["decode", "../../target/bin/decode"].map(|at| folder.join(at)));
+        let here = Path::new(".").join("target/bin/decode");
+        near.into_iter().flatten().chain([here]).collect()
     }
 
     /// Runs one input with so many blocks. Fewer lines than blocks are a fault: something was

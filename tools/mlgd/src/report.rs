@@ -2,6 +2,7 @@
 
 use crate::amount::{counted, thousands};
 use crate::checked::Answer;
+use crate::fields::column_letters;
 use crate::matrix_file::Matrix;
 use crate::results::{Counts, Outcome, Row};
 use crate::setting::Setting;
@@ -135,6 +136,18 @@ pub fn refused(line: usize, block: usize, reason: String) -> Row {
         within_half: false,
         reason,
     }
+}
+
+/// Why a block is refused of which a sample is not finite: the sample's place, from 0, and the
+/// spreadsheet's column, from 1, where a block is one line.
+pub fn not_finite(sample: f32, place: usize, column: Option<usize>) -> String {
+    let what = match sample.is_nan() {
+        true => "not a number",
+        false => "infinite",
+    };
+    let column = column.map(|column| format!(" (column {})", column_letters(column)));
+    let (number, column) = (place + 1, column.unwrap_or_default());
+    format!("sample {number}{column} is {what}: send the block again")
 }
 
 /// `1,700 decoded within the half, 250 decoded beyond the half, 45 failed, 5 refused`.

@@ -100,6 +100,8 @@ fn quoted(text: &str) -> String {
 pub struct Table {
     lines: Lines,
     names: Vec<String>,
+    /// What separates the names, and so the fields of every row.
+    separator: Separator,
     fields: Fields,
 }
 
@@ -107,13 +109,15 @@ impl Table {
     pub fn open(file: &str) -> Result<Table, Fault> {
         let mut lines = Lines::open(file)?;
         let mut fields = Fields::default();
-        let names = match lines.advance()? {
-            true => split(&lines, &mut fields)?,
-            false => Vec::new(),
-        };
+        let (mut names, mut separator) = (Vec::new(), Separator::Comma);
+        if lines.advance()? {
+            separator = separator_of(&lines, &mut fields)?;
+            names = split(&lines, separator, &mut fields)?;
+        }
         let table = Table {
             lines,
             names,
+            separator,
             fields,
         };
         for name in COLUMNS.split(',') {
@@ -139,7 +143,7 @@ impl Table {
             if self.lines.text().trim().is_empty() {
                 continue;
             }
-            let found = split(&self.lines, &mut self.fields)?;
+            let found = split(&self.lines, self.separator, &mut self.fields)?;
             if found.len() != self.names.len() {
                 let (fields, names) = (found.len(), self.names.len());
                 let (fields, names) = (counted(fields, "field"), counted(names, "name"));
@@ -222,14 +226,22 @@ impl Cells<'_> {
     }
 }
 
-/// The fields of a line. A table that a spreadsheet has saved may have semicolons.
-fn split(lines: &Lines, fields: &mut Fields) -> Result<Vec<String>, Fault> {
-    let line = lines.text();
-    let separator = fields.split(lines.place(), line, false)?;
-    if separator == Separator::Blank {
-        let what = "this line has one field";
-        return Err(lines.place().fault(what, "is this a table of mlgd decode?"));
+/// What separates the names: a table that a spreadsheet has saved may have semicolons or tabs.
+fn separator_of(lines: &Lines, fields: &mut Fields) -> Result<Separator, Fault> {
+    let no_table = |fault: Fault| fault.remedy("is this a table of mlgd decode?");
+    match fields.split(lines.place(), lines.text(), false, 0) {
+        Ok(Separator::Blank) => {
+            let what = "this line has one field";
+            Err(no_table(lines.place().fault(what, "")))
+        }
+        found => found.map_err(no_table),
     }
+}
+
+/// The fields of a line. Another separator than the names' is part of a field, quoted or not.
+fn split(lines: &Lines, by: Separator, fields: &mut Fields) -> Result<Vec<String>, Fault> {
+    let line = lines.text();
+    fields.split_by(lines.place(), line, by)?;
     let text = |span: &crate::fields::Span| span.of(line).replace("\"\"", "\"");
     Ok(fields.spans.iter().map(text).collect())
 }

@@ -3,9 +3,12 @@
 //! A block is one line, or the same number of lines with the same numbers of fields each time. A
 //! file that could be read in two ways is refused, with a hint.
 
+mod doubts;
+mod hints;
+
 use crate::amount::counted;
-use crate::fault::{short, Fault};
-use crate::fields::{column_letters, refuse_blank, Fields, Separator};
+use crate::fault::Fault;
+use crate::fields::{Fields, Separator};
 use crate::lines::{refuse_percent, without_comment, Lines};
 use crate::number;
 
@@ -31,6 +34,8 @@ pub struct SamplesFile {
     shape: Vec<usize>,
     /// Whether empty lines stand between blocks, once two blocks have been seen.
     apart: Option<bool>,
+    /// The first line and its first two fields, while every line could have decimal commas.
+    decimals: Option<(usize, String)>,
     heading_due: bool,
     blocks: usize,
 }
@@ -49,6 +54,7 @@ impl SamplesFile {
             separator: None,
             shape: Vec::new(),
             apart: None,
+            decimals: None,
             heading_due: form.header,
             blocks: 0,
         }
@@ -103,7 +109,7 @@ impl SamplesFile {
         let line = without_comment(self.lines.text());
         refuse_percent(place, line)?;
         let comma = self.form.decimal_comma;
-        let separator = self.fields.split(place, line, comma)?;
+        let separator = self.fields.split(place, line, comma, self.form.skip)?;
         let count = self.fields.spans.len();
         if count <= self.form.skip {
             let what = format!("this line has {}", counted(count, "field"));
@@ -122,7 +128,7 @@ impl SamplesFile {
                 None => return Err(self.no_number(at, separator)),
             }
         }
-        self.two_ways(separator)?;
+        self.two_ways(separator, self.blocks == 0 && before == 0)?;
         Ok(samples.len() - before)
     }
 
@@ -137,78 +143,6 @@ impl SamplesFile {
             }
             _ => Ok(()),
         }
-    }
-
-    /// `0,5` alone on a line: two whole numbers, or one with a decimal comma.
-    fn two_ways(&self, separator: Separator) -> Result<(), Fault> {
-        let spans = &self.fields.spans[self.form.skip..];
-        let &[whole, fraction] = spans else {
-            return Ok(());
-        };
-        if separator != Separator::Comma || !whole.close_to(&fraction) {
-            return Ok(());
-        }
-        let line = self.lines.text();
-        let (whole, fraction) = (whole.of(line), fraction.of(line));
-        let digits = |text: &str| !text.is_empty() && text.bytes().all(|b| b.is_ascii_digit());
-        if digits(fraction) && digits(whole.trim_start_matches(['-', '+'])) {
-            let what = format!("`{whole},{fraction}` could be one number or two");
-            let remedy = "give --decimal-comma if it is one, or separate the two by a blank";
-            return Err(self.lines.place().at(self.form.skip + 1, what, remedy));
-        }
-        Ok(())
-    }
-
-    /// What to say of a field that is no number; `at` counts from 0.
-    fn no_number(&self, at: usize, separator: Separator) -> Fault {
-        let place = self.lines.place();
-        let line = without_comment(self.lines.text());
-        let spans = &self.fields.spans;
-        let (written, comma) = (spans[at].of(line), self.form.decimal_comma);
-        let column = format!("column {}", column_letters(at + 1));
-        if spans.iter().all(|span| span.of(line).is_empty()) {
-            let remedy = "an empty row of the spreadsheet? Take the line away";
-            return place.fault("every field of this line is empty", remedy);
-        }
-        if written.is_empty() && at + 1 == spans.len() && at > self.form.skip {
-            let by = separator.shown();
-            let what = format!("the line ends with {by}: {column} is empty");
-            let remedy = "take that separator away, or: sed 's/[;,]$//' old > new";
-            return place.at(at + 1, what, remedy);
-        }
-        let is_number = |piece| number::read(piece, true).is_some();
-        let numbers = written.split([' ', '\t']).all(is_number);
-        let hint = self.heading_or_labels(at).filter(|_| !numbers);
-        if let Some(remedy) = hint {
-            let what = format!("{column}: `{}` is not a number", short(written));
-            return place.at(at + 1, what, remedy);
-        }
-        if let Err(fault) = refuse_blank(place, at + 1, written, separator) {
-            return fault;
-        }
-        let (what, remedy) = number::complaint(written, comma);
-        place.at(at + 1, format!("{column}: {what}"), remedy)
-    }
-
-    /// The option to give, if this field that is no number looks like a heading or a label.
-    fn heading_or_labels(&self, at: usize) -> Option<String> {
-        let line = without_comment(self.lines.text());
-        let (spans, skip) = (&self.fields.spans, self.form.skip);
-        let written = spans[at].of(line);
-        if !written.chars().any(char::is_alphabetic) || number::is_missing(written) {
-            return None;
-        }
-        let comma = self.form.decimal_comma;
-        let is_number = |at: &usize| number::read(spans[*at].of(line), comma).is_some();
-        let numbers = (skip..spans.len()).filter(is_number).count();
-        let texts = spans.len() - skip - numbers;
-        let first = self.blocks == 0 && self.shape.is_empty() && !self.form.header;
-        if first && texts > numbers {
-            return Some("give --header if this line is a heading".into());
-        }
-        let labels = (at..spans.len()).take_while(|at| !is_number(at)).count();
-        let all = at == skip && texts == labels && numbers > 0;
-        all.then(|| format!("give --skip-columns {} if these are labels", at + labels))
     }
 
     /// Whether a line of `count` samples has its place in the block, `held` with it.
@@ -248,32 +182,6 @@ impl SamplesFile {
         }
     }
 
-    /// A line with more samples than a block has.
-    fn too_many(&self, count: usize) -> Fault {
-        let (place, n) = (self.lines.place(), self.n);
-        let decimal = match (self.separator, self.form.decimal_comma) {
-            (Some(Separator::Comma), false) => {
-                "; if commas are decimal signs, give --decimal-comma"
-            }
-            _ => "",
-        };
-        if count.is_multiple_of(n) {
-            let blocks = count / n;
-            let what = format!("this line has {count} samples, {blocks} blocks of {n}");
-            let remedy =
-                format!("put each block on a line of its own, and look at the matrix's n{decimal}");
-            return place.fault(what, remedy);
-        }
-        let extra = self.form.skip + count - n;
-        let labels = match extra < n {
-            true => format!(" If the first fields are labels, give --skip-columns {extra}"),
-            false => String::new(),
-        };
-        let what = format!("this line has {count} samples, and a block has {n}");
-        let remedy = format!("is this the right matrix?{labels}{decimal}");
-        place.fault(what, remedy)
-    }
-
     /// An empty line may stand between blocks only.
     fn empty_line(&self, held: usize) -> Result<(), Fault> {
         if held == 0 {
@@ -310,7 +218,7 @@ impl SamplesFile {
     /// The end of the file, which is to be the end of a block.
     fn ended(&self, held: usize) -> Result<Option<usize>, Fault> {
         if held == 0 {
-            return Ok(None);
+            return self.refuse_decimals().map(|()| None);
         }
         let what = format!(
             "the file ends inside block {}, which has {held} of its {} samples",
@@ -321,17 +229,25 @@ impl SamplesFile {
     }
 }
 
-/// A block as a line that is read again without loss. `1,1` could be a decimal comma: two samples
-/// have a semicolon between them.
+/// A block as a line that is read again without loss. Its first number has a point or an
+/// exponent, so that the line is no heading that counts, and has no decimal commas.
 pub fn csv_line(samples: &[f32]) -> String {
-    let separator = if samples.len() == 2 { ";" } else { "," };
-    let numbers: Vec<String> = samples.iter().map(|&y| number::write(y)).collect();
-    numbers.join(separator) + "\n"
+    let mut numbers: Vec<String> = samples.iter().map(|&y| number::write(y)).collect();
+    if let Some(first) = numbers.first_mut() {
+        if first
+            .trim_start_matches('-')
+            .bytes()
+            .all(|b| b.is_ascii_digit())
+        {
+            first.push_str(".0");
+        }
+    }
+    numbers.join(",") + "\n"
 }
 
 #[cfg(test)]
 mod tests {
-    use super::{Form, SamplesFile};
+    use super::{csv_line, Form, SamplesFile};
     use crate::lines::Lines;
 
     /// The first line of each block, and the blocks.
@@ -387,5 +303,27 @@ mod tests {
         let (starts, blocks) = read_with(contents, form).unwrap();
         assert_eq!(blocks, [[0.5, -1.0, 2.5], [1.0, 1.0, 1.0]]);
         assert_eq!(starts, [2, 3]);
+    }
+
+    /// Also where the same numbers could be a heading, or have decimal commas.
+    #[test]
+    fn lines_come_back() {
+        for samples in [
+            &[1.0, 2.0, 3.0][..],
+            &[0.0, 1.0, 2.0],
+            &[-0.0, 5.0, -1.0, 0.0],
+            &[1.0, 1.0],
+            &[f32::INFINITY, 2.0],
+            &[1e30, 5.0],
+        ] {
+            let line = csv_line(samples);
+            let input = std::io::Cursor::new(line.clone().into_bytes());
+            let lines = Lines::of("y.csv", input, None);
+            let mut file = SamplesFile::of(lines, samples.len() as u16, Form::default());
+            let mut found = Vec::new();
+            assert_eq!(file.next_block(&mut found), Ok(Some(1)), "{line}");
+            assert_eq!(format!("{found:?}"), format!("{samples:?}"), "{line}");
+            assert_eq!(file.next_block(&mut found), Ok(None), "{line}");
+        }
     }
 }

@@ -4,6 +4,7 @@ use crate::fault::{short, Fault};
 use crate::number;
 use crate::text::{Line, Text};
 use std::fmt;
+use std::path::Path;
 
 /// Width, round limit, kind of step (0 level step, 1 full scale) and step, as the program reads
 /// them. Whether they are accepted is for the proved code to say: see [`crate::checked`].
@@ -15,24 +16,35 @@ pub struct Setting {
     pub step: f32,
 }
 
-const WORDS: &str = "bits 8 limit 64 level-step 0.1";
+const EXAMPLE: &str = "bits 8 limit 64 level-step 0.1";
+
+/// The words that have a number after them.
+const WORDS: [&str; 4] = ["bits", "limit", "level-step", "full-scale"];
 
 impl Setting {
     /// From an option's value: the words themselves, or the name of a file with them.
     pub fn open(value: &str) -> Result<Setting, Fault> {
-        let text = match Setting::name(value) == value {
-            true => Text::open(value)?,
-            false => Text::of("--setting", value)?,
+        let text = match Setting::is_words(value) {
+            true => Text::of(Setting::name(value), value)?,
+            false => Text::open(value).map_err(|fault| not_opened(value, fault))?,
         };
         Setting::read(&text)
     }
 
     /// What messages call it: the file's name, or the option's.
     pub fn name(value: &str) -> &str {
-        match value.trim().contains(' ') || value.trim().is_empty() {
+        match Setting::is_words(value) {
             true => "--setting",
             false => value,
         }
+    }
+
+    /// Whether a value is words: several, or one of a setting's where no file has that name.
+    fn is_words(value: &str) -> bool {
+        let mut words = value.split([' ', '\t', '\n', ',', ';', '=']);
+        let setting = words.next().is_some_and(|word| WORDS.contains(&word));
+        let value = value.trim();
+        value.is_empty() || value.contains(' ') || (setting && !Path::new(value).exists())
     }
 
     /// The words in any order, over as many lines as one likes. `kind` and a number before the
@@ -49,16 +61,16 @@ impl Setting {
             let word = line.field(at);
             let wanted = match word {
                 "kind" => 2,
-                "bits" | "limit" | "level-step" | "full-scale" => 1,
+                word if WORDS.contains(&word) => 1,
                 _ => {
                     let what = format!("`{}` is no word of a setting", short(word));
-                    return Err(text.at(line, at, what, &format!("write {WORDS}")));
+                    return Err(text.at(line, at, what, &format!("write {EXAMPLE}")));
                 }
             };
             let values: Vec<(&Line, usize)> = places.by_ref().take(wanted).collect();
             if values.len() < wanted {
                 let what = format!("the number after `{word}` is missing");
-                return Err(text.at(line, at, what, &format!("write {WORDS}")));
+                return Err(text.at(line, at, what, &format!("write {EXAMPLE}")));
             }
             found.keep(text, (line, at), &values)?;
         }
@@ -82,6 +94,14 @@ impl Setting {
             _ => self.largest_level(),
         };
         2.0 * f64::from(gain) * f64::from(sample.abs()) < f64::from(self.step)
+    }
+}
+
+/// What to say of a value that is neither words nor a file's name.
+fn not_opened(value: &str, fault: Fault) -> Fault {
+    match Path::new(value).exists() || value == "-" {
+        true => fault,
+        false => fault.remedy(format!("is the name right? Or write {EXAMPLE}")),
     }
 }
 
@@ -133,7 +153,7 @@ impl Found {
     fn setting(self, text: &Text) -> Result<Setting, Fault> {
         let missing = |word: &str| {
             let what = format!("`{word}` is missing");
-            text.at_end(what, &format!("write {WORDS}"))
+            text.at_end(what, &format!("write {EXAMPLE}"))
         };
         let (kind, step) = self
             .step
@@ -270,6 +290,38 @@ mod tests {
         ] {
             let message = read(line).unwrap_err();
             assert!(message.starts_with(expected), "{message}");
+        }
+    }
+
+    /// What an option's value is taken for: words that are not whole are no file's name.
+    #[test]
+    fn values() {
+        let remedy = "write bits 8 limit 64 level-step 0.1";
+        for (value, expected) in [
+            (
+                "bits",
+                "--setting:1:1: the number after `bits` is missing, ",
+            ),
+            (
+                "bits,8",
+                "--setting:1: `level-step` or `full-scale` is missing, ",
+            ),
+            (
+                "bits=8",
+                "--setting:1:1: `bits=8` is no word of a setting, ",
+            ),
+            (
+                "level-step",
+                "--setting:1:1: the number after `level-step` is missing, ",
+            ),
+            (
+                "limits.txt",
+                "limits.txt: No such file or directory, is the name right? Or ",
+            ),
+            ("8", "8: No such file or directory, is the name right? Or "),
+        ] {
+            let message = Setting::open(value).unwrap_err().to_string();
+            assert_eq!(message, format!("{expected}{remedy}"));
         }
     }
 }

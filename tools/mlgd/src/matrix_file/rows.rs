@@ -1,12 +1,42 @@
 //! Bare rows: a line of columns for each row, sizes derived.
 
-use super::{weight_of_columns, At, Form, Matrix, MatrixFile};
+use super::{weight_of_columns, At, Form, Matrix, MatrixFile, Ones};
 use crate::amount::counted;
 use crate::fault::Fault;
 use crate::text::{Line, Text};
 
 pub(super) fn read(text: &Text, from_one: bool) -> Result<MatrixFile, Fault> {
     let rho = text.lines[0].len();
+    let read = rows(text, rho, from_one)?;
+    let largest = read.list.iter().zip(&read.entries).max();
+    let n = largest.map_or(0, |(&column, _)| usize::from(column)) + 1;
+    let n_at = largest.map(|(_, &at)| at);
+    let m_at = read.entries.last().copied();
+    let ones = Ones {
+        list: &read.list,
+        entries: &read.entries,
+        first: read.first,
+    };
+    let gamma = weight_of_columns(text, n, ones)?;
+    let matrix = Matrix {
+        n: size(text, n, "n")?,
+        m: size(text, text.lines.len(), "m")?,
+        rho: size(text, rho, "rho")?,
+        gamma,
+        list: read.list,
+    };
+    Ok(MatrixFile {
+        file: text.file.clone(),
+        form: Form::Rows,
+        matrix,
+        first: read.first,
+        sizes: [n_at, m_at, None, None],
+        entries: read.entries,
+    })
+}
+
+/// Rows that have rho columns each.
+fn rows(text: &Text, rho: usize, from_one: bool) -> Result<Entries<'_>, Fault> {
     let mut read = Entries::new(text, from_one);
     for (i, line) in text.lines.iter().enumerate() {
         if line.len() != rho {
@@ -20,23 +50,7 @@ pub(super) fn read(text: &Text, from_one: bool) -> Result<MatrixFile, Fault> {
         }
         read.row(line)?;
     }
-    let n = usize::from(read.list.iter().copied().max().unwrap_or(0)) + 1;
-    let gamma = weight_of_columns(text, n, &read.list, read.first)?;
-    let matrix = Matrix {
-        n: size(text, n, "n")?,
-        m: size(text, text.lines.len(), "m")?,
-        rho: size(text, rho, "rho")?,
-        gamma,
-        list: read.list,
-    };
-    Ok(MatrixFile {
-        file: text.file.clone(),
-        form: Form::Rows,
-        matrix,
-        first: read.first,
-        sizes: [None; 4],
-        entries: read.entries,
-    })
+    Ok(read)
 }
 
 /// A size that goes into 16 bits.

@@ -1,7 +1,11 @@
 //! How the tool ends: statuses, full disks, lost lines, help.
 
-use crate::common::{program, Folder, SETTING};
+use crate::common::{program, Folder, SETTING, TOOL};
 use generator::{alist, codes};
+use std::fs;
+use std::os::unix::fs::symlink;
+use std::path::Path;
+use std::process::Command;
 
 const GOOD: &str = "0.5,-1,-1,-1,-1,-1,-1\n";
 
@@ -98,6 +102,25 @@ fn a_full_disk_behind_standard_output() {
     }
 }
 
+/// A table that does not go onto its disk, here by a limit on the sizes of files: the message says
+/// that an older one stays, and so it does.
+#[test]
+fn a_table_that_is_too_large() {
+    let folder = folder("too-large", &GOOD.repeat(100));
+    folder.write("r", "an old table\n");
+    let script = "trap '' XFSZ && ulimit -f 1 && exec \"$0\" \"$@\"";
+    let line = "decode --one-step --matrix h --samples y --out r";
+    let mut command = Command::new("sh");
+    command.args(["-c", script, TOOL]).args(line.split(' '));
+    let output = command.current_dir(&folder.0).output().unwrap();
+    assert_eq!(output.status.code(), Some(2), "{output:?}");
+    let said = String::from_utf8(output.stderr).unwrap();
+    let stays = ": nothing was written under this name, and an older file stays as it was\n";
+    assert!(said.starts_with("r: ") && said.ends_with(stays), "{said}");
+    assert_eq!(folder.read("r"), "an old table\n");
+    assert_eq!(folder.parts(), 0);
+}
+
 /// A program that prints what the file `printed` says.
 const FAKE: &str = concat!(env!("CARGO_MANIFEST_DIR"), "/tests/fake");
 
@@ -141,6 +164,43 @@ fn lost_programs() {
     assert_eq!(ran.said, expected);
 }
 
+/// From whatever folder it is called, the tool finds the program beside itself, or else that of
+/// the repository in which it was built.
+#[test]
+fn where_the_program_is_found() {
+    // Beside the tool, so that it can be linked: a copy could still be open when it is run.
+    let name = format!("found-{}", std::process::id());
+    let folder = Folder(Path::new(env!("CARGO_TARGET_TMPDIR")).join(name));
+    let heading = "block end rounds failing changed word";
+    for inside in ["other/build/release", "other/target/bin"] {
+        fs::create_dir_all(folder.0.join(inside)).unwrap();
+    }
+    folder.write("h", alist::text(&codes::code_a()));
+    folder.write("y", GOOD);
+    folder.write("printed", format!("{heading}\n0 decoded 1 0 1 00\n"));
+    let tool = folder.0.join("other/build/release/mlgd");
+    fs::hard_link(TOOL, &tool).unwrap();
+    let decode = || {
+        let mut command = Command::new(&tool);
+        command.args("decode --matrix h --samples y --setting".split(' '));
+        let output = command.arg(SETTING).current_dir(&folder.0).output();
+        let output = output.unwrap();
+        (
+            output.status.code(),
+            String::from_utf8(output.stderr).unwrap(),
+        )
+    };
+    let (status, said) = decode();
+    assert_eq!(status, Some(2));
+    assert!(said.starts_with("decode: the proved program"), "{said}");
+    for place in ["target/bin/decode", "build/release/decode"] {
+        let place = folder.0.join("other").join(place);
+        symlink(FAKE, &place).unwrap();
+        assert_eq!(decode().0, Some(0), "{}", place.display());
+        fs::remove_file(place).unwrap();
+    }
+}
+
 #[test]
 fn help_and_version() {
     let folder = folder("help", GOOD);
@@ -149,6 +209,8 @@ fn help_and_version() {
         (&["-h"], "mlgd SUBCOMMAND"),
         (&["--version"], "mlgd 0."),
         (&["decode", "--help"], "mlgd decode --matrix M"),
+        (&["map", "--help"], "mlgd map R.csv"),
+        (&["simulate", "--help"], "mlgd simulate --matrix M"),
         (&["matrix", "--help"], "mlgd matrix M"),
         (&["pack", "--help"], "mlgd pack --matrix M"),
         (&["unpack", "-h"], "mlgd unpack INPUT"),
@@ -157,6 +219,8 @@ fn help_and_version() {
         assert_eq!((ran.status, ran.said.as_str()), (0, ""), "{words:?}");
         assert!(ran.text().starts_with(begins), "{}", ran.text());
     }
+    let help = folder.run(&["decode", "--help"]).text();
+    assert!(help.contains("leaves R.PROCESS.part"), "{help}");
 }
 
 #[test]
@@ -263,7 +327,10 @@ fn one_step() {
 fn one_step_on_samples() {
     let folder = Folder::new("one-step-samples");
     folder.write("a", alist::text(&codes::code_a()));
-    folder.write("y", "1,-1,0.2,-1,1,3,1\nnan,1,1,1,1,1,1\n");
+    folder.write(
+        "y",
+        "1,-1,0.2,-1,1,3,1\nnan,1,1,1,1,1,1\n1,1,-inf,1,1,1,1\n",
+    );
     let line = "decode --one-step --matrix a --samples y --out r";
     let ran = folder.run_line(line);
     assert_eq!(ran.status, 1);
@@ -277,7 +344,32 @@ fn one_step_on_samples() {
     assert_eq!(rows[0], "1,0,decoded,1,0,1,1,yes,,x2e");
     assert_eq!(
         rows[1],
-        "2,1,refused,,,,,no,sample 1 is no finite number: send the block again,"
+        "2,1,refused,,,,,no,sample 1 (column A) is not a number: send the block again,"
+    );
+    assert_eq!(
+        rows[2],
+        "3,2,refused,,,,,no,sample 3 (column C) is infinite: send the block again,"
     );
     assert_eq!(folder.run_line(&format!("{line} --setting s")).status, 2);
+}
+
+/// Where the spreadsheet has that sample: after labels, or in no column of its own line.
+#[test]
+fn one_step_on_labelled_samples() {
+    let folder = Folder::new("one-step-labels");
+    folder.write("a", alist::text(&codes::code_a()));
+    let line = "decode --one-step --matrix a --samples y --out r";
+    for (samples, options, place) in [
+        (
+            "x;1;1;1;nan;1;1;1\n",
+            " --skip-columns 1",
+            "sample 4 (column E)",
+        ),
+        ("1;1;1\n1;1;1;inf\n", "", "sample 7"),
+    ] {
+        folder.write("y", samples);
+        assert_eq!(folder.run_line(&format!("{line}{options}")).status, 1);
+        let table = folder.read("r");
+        assert!(table.contains(&format!(",no,{place} is ")), "{table}");
+    }
 }

@@ -58,9 +58,9 @@ const SIZES: &[(&str, &str)] = &[
     ),
     (
         "0 65535\n1 2\n",
-        ": column 0 stands in 1 row and column 3 in 0",
+        ":1: column 0 stands in 1 row and column 3 in 0",
     ),
-    ("0 0\n0 0\n", ": rho is 0: the decoder takes 2 to 32"),
+    ("0 0\n0 0\n", ":1: rho is 0: the decoder takes 2 to 32"),
     ("", ":1: a matrix is missing"),
 ];
 

@@ -4,6 +4,7 @@ mod chance;
 mod common;
 mod ends;
 mod hostile;
+mod make;
 mod memory;
 mod messages;
 mod pictures;

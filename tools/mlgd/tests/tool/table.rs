@@ -236,6 +236,25 @@ fn a_table_that_was_saved_again() {
     assert!(fault.contains("there is no column `outcome`"), "{fault}");
 }
 
+/// Commas in the reason need no quotation marks where semicolons or tabs separate the fields.
+#[test]
+fn a_saved_table_with_commas() {
+    let folder = Folder::new("saved-commas");
+    let reason = "changed 2 bits, more than the 1 that is proved to be undone";
+    for separator in [";", "\t"] {
+        let row = ["5", "0", "decoded", "1", "0", "2", "2", "no", reason, "x2e"];
+        let (header, row) = (COLUMNS.replace(',', separator), row.join(separator));
+        folder.write("r", format!("{header}\n{row}\n"));
+        assert_eq!(rows(&folder, "r")[0].reason, reason);
+        assert_eq!(folder.run_line("map r --out m").status, 0);
+    }
+    folder.write("r", COLUMNS.replacen(',', ";", 1));
+    let ran = folder.run_line("map r --out m");
+    let expected = "r:1: a comma beside `;` could be read in two ways, \
+                    is this a table of mlgd decode?\n";
+    assert_eq!((ran.status, ran.said.as_str()), (2, expected));
+}
+
 /// A spreadsheet's file: byte order mark, heading, labels, decimal commas, another minus, carriage
 /// returns. Its table is that of the plain file, but for the lines.
 #[test]
@@ -271,6 +290,23 @@ fn a_spreadsheet_s_file() {
     };
     assert_eq!(rest(&folder.read("r")), rest(&table));
     assert!(folder.read("r").lines().nth(1).unwrap().starts_with("2,0,"));
+}
+
+/// Commas in a label do no harm where semicolons separate the fields.
+#[test]
+fn labels_with_commas() {
+    let folder = Folder::new("label-commas");
+    folder.write("h", alist::text(&codes::code_a()));
+    folder.write(
+        "y",
+        "Soho, London;0.5;-1;-1;-1;-1;-1;-1\nKent;1;-1;-1;-1;-1;-1;-1\n",
+    );
+    let line = "decode --one-step --matrix h --samples y --out r";
+    assert_eq!(folder.run_line(line).status, 2);
+    let ran = folder.run_line(&format!("{line} --skip-columns 1"));
+    assert_eq!(ran.status, 0, "{ran:?}");
+    let table = folder.read("r");
+    assert!(table.ends_with("2,1,decoded,1,0,1,1,yes,,x00\n"), "{table}");
 }
 
 /// An alist with n and m exchanged is accepted, if it is regular; its sizes are told, and the
