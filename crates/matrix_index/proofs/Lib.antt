@@ -1,1 +1,3 @@
-pub mod Entries
+pub mod Parts
+pub mod Cursors
+pub mod Filling
