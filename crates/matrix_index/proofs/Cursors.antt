@@ -31,7 +31,7 @@ use Rattle.matrix.specs.Paper.PlainCheck.{Accepted}
 use Rattle.matrix.proofs.Rows.{few-entries, in-list, ascends}
 use Rattle.matrix.proofs.Weights.{weight-equal}
 use Rattle.matrix_index.specs.Paper.Index.{columnStart, indexSize}
-use Rattle.matrix_index.specs.Filling.{before, within, startBy, rowPlace, Cursors, Passed}
+use Rattle.matrix_index.specs.Filling.{before, inRow, startBy, rowPlace, Cursors, Passed}
 use Rattle.matrix_index.proofs.Parts.{place-inside}
 
 -- the next place of the list, its column, and the place of the row there
@@ -56,7 +56,7 @@ module _ (H : Matrix) (a : Accepted H) where
 
   -- before the first row each cursor is at its column's starting place
   pub cursors-none : (c : List ℕ) → c ≡ over (listed (H .n) (startBy (H .gamma))) (replicate 1023 0) → Cursors H 0 0 c
-  unfolding before within sumBelow
+  unfolding before inRow sumBelow
   cursors-none c e =
       record {
         long = over-long (H .n) (startBy (H .gamma)) (replicate 1023 0) c e (omega (arith, a .sizes .n-most, length-replicate {A = ℕ} 1023 0))
@@ -70,8 +70,8 @@ module _ (H : Matrix) (a : Accepted H) where
 
   module _ (i : ℕ) (row : i < H .m) where
     -- no earlier entry of a row has the column of a later one
-    pub entry-alone : (k : ℕ) → k < H .rho → within H i k (entry H i k) ≡ 0
-    unfolding within
+    pub entry-alone : (k : ℕ) → k < H .rho → inRow H i k (entry H i k) ≡ 0
+    unfolding inRow
     entry-alone k h = sum-zero k (λ q l. same-ne (entry H i q) (entry H i k) (λ e. omega (arith, ascends H (a .rows) i q k row l h)))
 
     module _ (k : ℕ) (h : k < H .rho) (c : List ℕ) (u : Cursors H i k c) where
@@ -106,7 +106,7 @@ module _ (H : Matrix) (a : Accepted H) where
 
       -- one entry more
       pub cursors-step : Cursors H i (k + 1) (set c (entry H i k) (at c (entry H i k) + 1))
-      unfolding within sumBelow
+      unfolding inRow sumBelow
       cursors-step =
           rw (add-one k)
           record {
@@ -130,7 +130,7 @@ module _ (H : Matrix) (a : Accepted H) where
 
     -- a row with all of its entries passed is done
     pub cursors-row : (c : List ℕ) → Cursors H i (H .rho) c → Cursors H (i + 1) 0 c
-    unfolding before within has sumBelow
+    unfolding before inRow has sumBelow
     cursors-row c u = rw (add-one i) record { long = u .long; each = λ j l. omega (arith, u .each j l) }
 
     pub passed-row : (c₀ c : List ℕ) → Passed H i (H .rho) c₀ c → Passed H (i + 1) 0 c₀ c

@@ -42,17 +42,17 @@ module _ (H : Matrix) where
       length-append (rowsOf H j i) (replicate (has H i j) i) ∙ omega (arith, length-rows j i, length-replicate {A = ℕ} (has H i j) i)
 
   -- a column's weight is its ones in all rows
-  before-all : (j : ℕ) → before H (H .m) j ≡ weight H j
+  pub before-all : (j : ℕ) → before H (H .m) j ≡ weight H j
   unfolding before weight
   before-all j = refl
 
   -- the ones of a column before a later row
-  before-next : (j r i : ℕ) → r < i → before H r j + has H r j ≤ before H i j
+  pub before-next : (j r i : ℕ) → r < i → before H r j + has H r j ≤ before H i j
   unfolding before
   before-next j r i l = sum-next r i (λ p. has H p j) l
 
   -- a row that has the column stands behind those before it
-  rows-at : (j r i : ℕ) → r < i → has H r j ≡ 1 → at (rowsOf H j i) (before H r j) ≡ r
+  pub rows-at : (j r i : ℕ) → r < i → has H r j ≡ 1 → at (rowsOf H j i) (before H r j) ≡ r
   unfolding rowsOf
   rows-at j r zero l e = absurd (not-suc-le-zero l)
   rows-at j r (suc i) l e =
@@ -126,7 +126,7 @@ module _ (H : Matrix) (r : Rows H) where
       parts = joined (H .n) (λ i. rowsOf H i (H .m))
 
   -- where a column's part ends
-  start-next : (j : ℕ) → j < H .n → columnStart H j + weight H j ≤ H .m * H .rho
+  pub start-next : (j : ℕ) → j < H .n → columnStart H j + weight H j ≤ H .m * H .rho
   unfolding columnStart
   start-next j l = omega (arith, sum-next j (H .n) (weight H) l, weights-total H r)
 

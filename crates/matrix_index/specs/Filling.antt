@@ -1,6 +1,6 @@
 -- The index while it is filled, and as the decoders read it.
 --   before H i j              == the ones of column j in the rows before row i
---   within H i k j            == the ones of column j among the first k entries of row i
+--   inRow H i k j            == the ones of column j among the first k entries of row i
 --   startBy gamma j           == the starting place of column j where every column has gamma ones
 --   rowPlace H i k            == where row i stands for its k-th entry
 --   Cursors H i k c           == c has, for each column, where its next row goes after the rows before row i and k entries of row i
@@ -22,8 +22,8 @@ unfoldable pub before : Matrix → ℕ → ℕ → ℕ
 before H i j = sumBelow i (λ r. has H r j)
 
 -- the ones of column j among the first k entries of row i
-unfoldable pub within : Matrix → ℕ → ℕ → ℕ → ℕ
-within H i k j = sumBelow k (λ q. same (entry H i q) j)
+unfoldable pub inRow : Matrix → ℕ → ℕ → ℕ → ℕ
+inRow H i k j = sumBelow k (λ q. same (entry H i q) j)
 
 -- the starting places of columns of equal weight
 unfoldable pub startBy : ℕ → ℕ → ℕ
@@ -36,7 +36,7 @@ rowPlace H i k = suc (H .n) + (columnStart H (entry H i k) + before H i (entry H
 -- for each column, how many row numbers stand before its next one
 pub record Cursors (H : Matrix) (i k : ℕ) (c : List ℕ) : Type 0 where
   pub long : length c ≡ 1023
-  pub each : (j : ℕ) → j < H .n → at c j ≡ columnStart H j + (before H i j + within H i k j)
+  pub each : (j : ℕ) → j < H .n → at c j ≡ columnStart H j + (before H i j + inRow H i k j)
 
 -- row i at the places of its first k entries
 unfoldable pub rowPut : Matrix → ℕ → ℕ → List ℕ → List ℕ

@@ -3,11 +3,12 @@
 use matrix_check::Shape;
 use program_block::block;
 use quantiser::Setting;
+ghost use mathlib.Core.Path.{_≡_};
 ghost use Prim.Native.Nat.{_+_, _*_};
 ghost use Rattle.matrix.specs.Paper.Shapes.{matrixOf};
 ghost use Rattle.quantiser_settings.specs.Paper.Settings.{settingOf};
 ghost use Rattle.program_numerals.specs.Texts.{PutWithin};
-ghost use Rattle.matrix_index.specs.Index.{Indexed};
+ghost use Rattle.matrix_index.specs.Paper.Index.{indexOf};
 ghost use Rattle.program_lines.specs.Loans.{Countable};
 ghost use Rattle.program_lines.specs.Paper.Blocks.{blocksIn, blockLines, chunkText};
 
@@ -22,7 +23,7 @@ fn lines(
     out: &mut [u8],
     at: usize,
 ) -> usize
-    requires { ⌜ Countable (matrixOf shape (now list)) (settingOf setting) number (now bytes) at (now out) × Indexed (matrixOf shape (now list)) (now index) ⌝ }
+    requires { ⌜ Countable (matrixOf shape (now list)) (settingOf setting) number (now bytes) at (now out) × (now index ≡ indexOf (matrixOf shape (now list))) ⌝ }
     ensures { λ r. ⌜ PutWithin (289 * blocksIn (matrixOf shape (now (list .entry))) (now (bytes .entry))) (blockLines (matrixOf shape (now (list .entry))) (settingOf setting) number (blocksIn (matrixOf shape (now (list .entry))) (now (bytes .entry))) (now (bytes .entry))) at (now (out .entry)) (now (out .exit)) r ⌝ }
 {
     let size = 4 * (shape.n as usize);

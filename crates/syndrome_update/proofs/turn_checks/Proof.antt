@@ -1,12 +1,12 @@
--- `iterative_tally::turn_checks`. The loop's invariant: the parities of the first `k` rows of the part are turned over.
+-- `syndrome_update::turn_checks`. The loop's invariant: the parities of the first `k` rows of the part are turned over.
 use Prim.Native.Nat.{_-_, _≤_}
 use native.Mathlib.Nat.{le-antisymm}
 use native.Mathlib.Omega.{arith}
 use Rattle.counting.specs.Places.{among}
-use Rattle.iterative_tally.specs.Parities.{ParitiesTurned}
-use Rattle.iterative_tally.proofs.Turns.{checks-none, checks-step}
-use Rattle.iterative_tally.proofs.turn_checks.Statement.{statement}
-use Rattle.iterative_tally.proofs.turn_checks.Tie as tie
+use Rattle.syndrome_update.specs.Parities.{ParitiesTurned}
+use Rattle.syndrome_update.proofs.Turns.{checks-none, checks-step}
+use Rattle.syndrome_update.proofs.turn_checks.Statement.{statement}
+use Rattle.syndrome_update.proofs.turn_checks.Tie as tie
 
 abbrev Inv-loop : tie.InvT-loop
 Inv-loop index from count parity₀ k₀ parity k = (k ≤ count) × ParitiesTurned (among index from k) parity₀ parity
