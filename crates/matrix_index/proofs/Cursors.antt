@@ -1,5 +1,7 @@
 -- Laws of the cursors, which have for each column where its next row goes.
 --   start-is        == a starting place as it is computed
+--   start-small     == it is at most 1,024 * 32
+--   reached         == a row's place as the code adds it up
 --   start-equal     == where every column has gamma ones, column j starts at j * gamma
 --   entry-alone     == no earlier entry of a row has the column of a later one
 --   cursor-is       == the cursor of the next entry's column is at that entry's place
@@ -17,6 +19,7 @@ use mathlib.Core.Path.{_≡_, refl, sym, ap, _∙_}
 use mathlib.Core.List.{List}
 use mathlib.Core.Logic.{inl, inr}
 use Prim.Native.Nat.{ℕ, suc, _+_, _*_, _≤_, _<_}
+use native.Mathlib.Nat.{mul-le-mul}
 use native.Mathlib.Numerals.{add-one}
 use native.Mathlib.Omega.{arith}
 use lib.ListN.{length, set, replicate, length-set, length-replicate}
@@ -47,6 +50,14 @@ pub record Spot (H : Matrix) (i k : ℕ) (c : List ℕ) : Type 0 where
 pub start-is : (gamma j : ℕ) → j * gamma ≡ startBy gamma j
 unfolding startBy
 start-is gamma j = refl
+
+-- it is at most 1,024 * 32
+pub start-small : (j gamma : ℕ) → j ≤ 1024 → gamma ≤ 32 → j * gamma ≤ 32768
+start-small j gamma h l = mul-le-mul {n₁ = j} {m₁ = gamma} {n₂ = 1024} {m₂ = 32} h l
+
+-- a row's place as the code adds it up
+pub reached : (n c : ℕ) {p : ℕ} → suc n + c ≡ p → n + 1 + c ≡ p
+reached n c e = omega (arith, e)
 
 module _ (H : Matrix) (a : Accepted H) where
   -- where every column has gamma ones, column j starts at j * gamma

@@ -1,5 +1,6 @@
 -- Laws of an index that is filled: writing the rows at their places, over the starting places, makes it the index of the matrix.
 --   put-long        == writing a row leaves the index as long as it was
+--   size-is         == the index's size as the code adds it up
 --   put-none        == nothing is written yet
 --   put-step        == one entry more is written
 --   put-next        == the same at the place that the cursor tells
@@ -35,6 +36,11 @@ use Rattle.matrix_index.specs.Paper.Index.{indexOf, indexSize}
 use Rattle.matrix_index.specs.Filling.{startBy, rowPlace, rowPut, rowsPut}
 use Rattle.matrix_index.proofs.Parts.{index-long, index-start, index-row, place-past, place-inside, place-own, index-covers}
 use Rattle.matrix_index.proofs.Cursors.{start-equal}
+
+-- the index's size as the code adds it up
+pub size-is : (H : Matrix) → H .n + 1 + H .m * H .rho ≡ indexSize H
+unfolding indexSize
+size-is H = omega arith
 
 -- nothing is written yet
 pub put-none : (H : Matrix) (i : ℕ) (x : List ℕ) → x ≡ rowPut H i 0 x

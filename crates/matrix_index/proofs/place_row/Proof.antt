@@ -1,5 +1,5 @@
 -- `matrix_index::place_row`. The loop's invariant: the row is written at the places of its first `k` entries, whose cursors have moved on.
-use Prim.Native.Nat.{ℕ, suc, _+_, _-_, _≤_}
+use Prim.Native.Nat.{_-_, _≤_}
 use mathlib.Core.Path.{_≡_, sym, ap, _∙_}
 use native.Mathlib.Nat.{le-antisymm}
 use native.Mathlib.Omega.{arith}
@@ -7,7 +7,7 @@ use lib.ListN.{length}
 use Rattle.matrix.specs.Paper.Code.{Matrix}
 use Rattle.matrix.specs.Paper.Shapes.{matrixOf}
 use Rattle.matrix_index.specs.Filling.{Passed, rowPut}
-use Rattle.matrix_index.proofs.Cursors.{Spot, spot-of, passed-none, passed-step, passed-row}
+use Rattle.matrix_index.proofs.Cursors.{Spot, spot-of, reached, passed-none, passed-step, passed-row}
 use Rattle.matrix_index.proofs.Filling.{put-next, put-long, put-none}
 use Rattle.matrix_index.proofs.place_row.Statement.{statement}
 use Rattle.matrix_index.proofs.place_row.Tie as tie
@@ -18,10 +18,6 @@ Inv-loop shape list i cursors₀ index₀ rho k₀ cursors index k =
 
 abbrev μ-loop : tie.MeasureT-loop
 μ-loop shape list i cursors₀ index₀ rho k₀ cursors index k = rho - k
-
--- the place as the code adds it up
-reached : (n c : ℕ) {p : ℕ} → suc n + c ≡ p → n + 1 + c ≡ p
-reached n c e = omega (arith, e)
 
 -- the matrix that is lent
 abbrev lent : tie.Start Inv-loop μ-loop → Matrix

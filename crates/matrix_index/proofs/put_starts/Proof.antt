@@ -1,12 +1,12 @@
 -- `matrix_index::put_starts`. The loop's invariant: the first `j` starting places are written over the old cells.
-use Prim.Native.Nat.{ℕ, _*_, _-_, _≤_}
+use Prim.Native.Nat.{_*_, _-_, _≤_}
 use mathlib.Core.Path.{_≡_, sym}
-use native.Mathlib.Nat.{le-antisymm, mul-le-mul}
+use native.Mathlib.Nat.{le-antisymm}
 use native.Mathlib.Omega.{arith}
 use Rattle.counting.specs.Paper.Lists.{listed, over}
 use Rattle.counting.proofs.Writes.{over-none, over-long, over-step}
 use Rattle.matrix_index.specs.Filling.{startBy}
-use Rattle.matrix_index.proofs.Cursors.{start-is}
+use Rattle.matrix_index.proofs.Cursors.{start-is, start-small}
 use Rattle.matrix_index.proofs.put_starts.Statement.{statement}
 use Rattle.matrix_index.proofs.put_starts.Tie as tie
 
@@ -16,18 +16,14 @@ Inv-loop count gamma cells₀ j₀ cells j = (j ≤ count) × (cells ≡ over (l
 abbrev μ-loop : tie.MeasureT-loop
 μ-loop count gamma cells₀ j₀ cells j = count - j
 
--- a starting place is at most 1,024 * 32
-small : (j gamma : ℕ) → j ≤ 1024 → gamma ≤ 32 → j * gamma ≤ 32768
-small j gamma h l = mul-le-mul {n₁ = j} {m₁ = gamma} {n₂ = 1024} {m₂ = 32} h l
-
 loop-holds : tie.Need-loop-holds Inv-loop μ-loop
 loop-holds c = (omega arith, sym (over-none _ _))
 
 mul-place : tie.Need-mul-place Inv-loop μ-loop
-mul-place c = let s = c .before .before in omega (arith, small (c .before .loop .j) (s .args .gamma) (omega arith) (s .pre .1))
+mul-place c = let s = c .before .before in omega (arith, start-small (c .before .loop .j) (s .args .gamma) (omega arith) (s .pre .1))
 
 cast-cells : tie.Need-cast-cells Inv-loop μ-loop
-cast-cells c = let s = c .before .before in omega (arith, small (c .before .loop .j) (s .args .gamma) (omega arith) (s .pre .1))
+cast-cells c = let s = c .before .before in omega (arith, start-small (c .before .loop .j) (s .args .gamma) (omega arith) (s .pre .1))
 
 mul-cells : tie.Need-mul-cells Inv-loop μ-loop
 mul-cells c = omega arith
