@@ -15,8 +15,10 @@
 --   puts-room       == what is written stays as long as the memory was
 --   size-small      == the index has at most 33,760 numbers
 --   size-past       == and more than n
+--   index-front     == the front of the memory in which the index is written is the index
+--   index-fits      == and lies in that memory
 -- Assumes nothing.
-use mathlib.Core.Path.{_≡_, refl, sym, ap, _∙_}
+use mathlib.Core.Path.{_≡_, refl, sym, ap, ap₂, _∙_}
 use mathlib.Core.List.{List}
 use mathlib.Core.Logic.{inl, inr}
 use Prim.Native.Nat.{ℕ, zero, suc, _+_, _*_, _≤_, _<_}
@@ -24,11 +26,11 @@ use native.Mathlib.Nat.{not-suc-le-zero}
 use native.Mathlib.Numerals.{add-one}
 use native.Mathlib.Decide.{ℕ-discrete, decLt}
 use native.Mathlib.Omega.{arith}
-use lib.ListN.{length, set, length-set}
+use lib.ListN.{length, set, take, length-set}
 use lib.Seq.{getD-set-same, getD-set-other, ext-getD}
 use Rattle.counting.specs.Paper.Lists.{listed, over}
 use Rattle.counting.specs.Places.{at}
-use Rattle.counting.proofs.Writes.{length-listed, getD-listed, length-over, getD-over-new, getD-over-old, stored}
+use Rattle.counting.proofs.Writes.{length-listed, getD-listed, length-over, getD-over-new, getD-over-old, take-over, stored}
 use Rattle.matrix.specs.Paper.Code.{Matrix}
 use Rattle.matrix.specs.Paper.PlainCheck.{Accepted}
 use Rattle.matrix.proofs.Rows.{few-entries}
@@ -96,6 +98,16 @@ module _ (H : Matrix) (a : Accepted H) where
   pub size-past : suc (H .n) ≤ indexSize H
   unfolding indexSize
   size-past = omega arith
+
+  module _ (old x : List ℕ) (e : x ≡ over (indexOf H) old) where
+    -- the front of the memory in which the index is written is the index
+    pub index-front : take (H .n + 1 + H .m * H .rho) x ≡ indexOf H
+    index-front =
+        ap₂ (λ (k : ℕ) (y : List ℕ). take k y) (size-is H ∙ sym (index-long H (a .rows))) e ∙ take-over (indexOf H) old
+
+    -- and lies in that memory
+    pub index-fits : indexSize H ≤ length old → H .n + 1 + H .m * H .rho ≤ length x
+    index-fits l = omega (arith, size-is H, ap length e, length-over (indexOf H) old (omega (arith, index-long H (a .rows))))
 
   module _ (i : ℕ) (row : i < H .m) (x : List ℕ) where
     -- a place that is none of the row's stays
