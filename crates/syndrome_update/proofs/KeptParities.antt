@@ -1,5 +1,6 @@
 -- What is turned over makes the parities of one word those of another, and they tell its failing checks.
 --   columns           == the index of an accepted matrix has a part for each column
+--   count-is          == how many rows a column has in it
 --   column-rows       == in it a row stands at a column as often as it has the column
 --   turned-renewed    == the parities of one word turned over where the other differs are those of the other
 --   word-below        == a word has bits below n
@@ -39,7 +40,7 @@ word-below H z w = w
 
 module _ (H : Matrix) (a : Accepted H) where
   -- how many rows a column has in the index
-  count-is : (j : ℕ) → j < H .n → at (indexOf H) (j + 1) - at (indexOf H) j ≡ weight H j
+  pub count-is : (j : ℕ) → j < H .n → at (indexOf H) (j + 1) - at (indexOf H) j ≡ weight H j
   count-is j l = omega (arith, ap (at (indexOf H)) (add-one j), index-next H (a .rows) j l)
 
   -- the index as parts
