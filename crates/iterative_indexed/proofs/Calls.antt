@@ -1,6 +1,8 @@
 -- The answer of the call that takes an index, by what is asked before it.
 --   refused-matrix     == the matrix is refused: the check's number and place
 --   refused-index      == the index is refused
+--   verdict-alike      == with the matrix's own index it asks what iterative voting asks
+--   says-alike         == and says what iterative voting says
 --   answered-own       == it is the matrix's own: what iterative voting answers
 --   answered-alike     == so with the matrix's own index the call is iterative voting
 --   samples-below      == setting and samples are refused by no number above 8
