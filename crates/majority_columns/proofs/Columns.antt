@@ -99,7 +99,7 @@ module _ (H : Matrix) (a : Accepted H) (x : List ℕ) (own : x ≡ indexOf H) wh
     column-tallied v f e c =
         record {
           long = over-long (H .n) (columnVotes x (H .n) (at p)) (replicate 1023 0) v e (omega (arith, a .sizes .n-most, length-replicate {A = ℕ} 1023 0))
-          ∙ length-replicate {A = ℕ} 1023 0;
+              ∙ length-replicate {A = ℕ} 1023 0;
           each = λ j. elim (decLt j (H .n)) [
             | yes l ↦ over-at (H .n) (columnVotes x (H .n) (at p)) (replicate 1023 0) v e 0 j l ∙ column-votes j l
             | no g ↦

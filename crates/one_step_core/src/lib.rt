@@ -33,7 +33,13 @@ fn vote(shape: Shape, list: &[u16], bits: &mut [u8; 1023]) -> Stop
 
 // Packs the bits after the vote into the word's buffer, counts where they differ from the received word, and reports.
 // Only this repository's crates call it, after a vote.
-pub fn hand_back(n: usize, received: &[u8], stop: Stop, bits: &[u8; 1023], word: &mut [u8]) -> Report
+pub fn hand_back(
+    n: usize,
+    received: &[u8],
+    stop: Stop,
+    bits: &[u8; 1023],
+    word: &mut [u8],
+) -> Report
     requires { ⌜ HandBackLent n (now received) (now bits) (now word) ⌝ }
     ensures { λ r. ⌜ HandedBack n (now (received .entry)) (at (now (bits .entry))) (stop .rounds) (stop .failing) (now (word .entry)) (now (word .exit)) (reportOf r) ⌝ }
 {

@@ -22,7 +22,7 @@ rows-parities H z p few e =
     record {
       bits = record {
         long = over-long (H .m) (rowFails (H .list) (H .rho) z) (replicate 1023 0) p e (omega (arith, few, length-replicate {A = ℕ} 1023 0))
-        ∙ length-replicate {A = ℕ} 1023 0;
+            ∙ length-replicate {A = ℕ} 1023 0;
         bit = λ i. elim (decLt i (H .m)) [
           | yes h ↦ parity-bit H z (replicate 1023 0) p e i h
           | no g ↦ omega (arith, over-rest (H .m) (rowFails (H .list) (H .rho) z) (replicate 1023 0) p e 0 i (omega arith), zeros 1023 i)

@@ -50,7 +50,13 @@ fn vote(shape: Shape, list: &[u16], index: &[u16], bits: &mut [u8; 1023]) -> Sto
 }
 
 // The core, with the index of an accepted matrix and a word that is known to be accepted.
-fn one_step_own(shape: Shape, list: &[u16], index: &[u16], received: &[u8], word: &mut [u8]) -> Report
+fn one_step_own(
+    shape: Shape,
+    list: &[u16],
+    index: &[u16],
+    received: &[u8],
+    word: &mut [u8],
+) -> Report
     requires { ⌜ VoteLent (matrixOf shape (now list)) (now received) (now word) × (now index ≡ indexOf (matrixOf shape (now list))) ⌝ }
     ensures { λ r. ⌜ Voted (matrixOf shape (now (list .entry))) (now (received .entry)) (now (word .entry)) (now (word .exit)) (reportOf r) ⌝ }
 {
@@ -75,7 +81,13 @@ fn on_own(shape: Shape, list: &[u16], index: &[u16], received: &[u8], word: &mut
 }
 
 // Refusal 10, then what follows with the matrix's own index.
-fn on_accepted(shape: Shape, list: &[u16], index: &[u16], received: &[u8], word: &mut [u8]) -> Answer
+fn on_accepted(
+    shape: Shape,
+    list: &[u16],
+    index: &[u16],
+    received: &[u8],
+    word: &mut [u8],
+) -> Answer
     requires { ⌜ Accepted (matrixOf shape (now list)) ⌝ }
     ensures { λ r. ⌜ OneStepIndexedAnswered (matrixOf shape (now (list .entry))) (now (index .entry)) (now (received .entry)) (now (word .entry)) (now (word .exit)) (saidOf r) ⌝ }
 {

@@ -38,7 +38,7 @@ sub-odd-rows c = let s = c .before .before .before in s .pre .0 .rises (s .args 
 
 odd-rows-requires : tie.Need-odd-rows-requires
 odd-rows-requires c κs =
-    let s = c .before .before .before in 
+    let s = c .before .before .before in
     (s .pre .0 .part (s .args .j) (s .pre .2), few-at (s .args .index .now) (s .args .n) (s .args .j) (s .pre .1) (s .pre .2), s .pre .3)
 
 returns : tie.Need-returns
