@@ -177,15 +177,8 @@ pub extern "C" fn mlgd_iterative_indexed(
     ensures { λ r. ⌜ DecodedByIndex (matrix n m rho gamma (now (list .entry))) (now (index .entry)) (settingBy bits limit kind step) (now (samples .entry)) r (now (word .entry)) (now (word .exit)) (now (levels .entry)) (now (levels .exit)) ⌝ }
 {
     let shape = Shape { n, m, rho, gamma };
-    let a = iterative_indexed::iterative_indexed(
-        shape,
-        list,
-        index,
-        setting_of(bits, limit, kind, step),
-        samples,
-        word,
-        levels,
-    );
+    let s = setting_of(bits, limit, kind, step);
+    let a = iterative_indexed::iterative_indexed(shape, list, index, s, samples, word, levels);
     answer_code(a)
 }
 
