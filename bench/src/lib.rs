@@ -4,5 +4,6 @@
 pub mod accumulate;
 pub mod clock;
 pub mod incremental;
+pub mod index;
 pub mod optimised;
 pub mod whole;

@@ -1,9 +1,10 @@
 //! The library's times as ratios to a hand-optimised form in Rust, and the literal form's.
 //!
 //! CPU time of one call, the forms taking turns in the same run, the best of many turns: 300, or as
-//! many as the argument says, and a fifth of that for the programs, whose times follow in a second
+//! many as the argument says, and a fifth of that for the programs, whose times are in the last
 //! table. Above each table stands what was done.
 
+mod indexed;
 mod programs;
 
 use bench::clock::cpu_microseconds;
@@ -219,5 +220,6 @@ fn main() {
         measure_check(&code, turns);
         measure_one_step(&code, turns);
     }
+    indexed::measure(turns);
     programs::measure(turns.div_ceil(PROGRAM_SHARE));
 }

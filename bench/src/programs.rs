@@ -20,7 +20,7 @@ const LITERAL_BLOCKS: usize = 5;
 const LITERAL_RUNS: usize = 8;
 
 /// A code with the step and the noise at which about five rounds are needed.
-fn cases() -> [(Code, f32, f64); 3] {
+pub fn cases() -> [(Code, f32, f64); 3] {
     [
         (codes::eg1023(), 0.015, 0.51),
         (codes::qc961(), 0.025, 0.535),

@@ -16,7 +16,7 @@ use lib.ListN.{length, getD, length-append, List·getD-append}
 use lib.Seq.{getD-append-add}
 use borrow.Author.Tests.{eq-eqb, eqb-true}
 use Rattle.counting.specs.Paper.Sum.{sumBelow}
-use Rattle.counting.specs.Joined.{joined, sameList}
+use Rattle.counting.specs.Paper.Joined.{joined, sameList}
 use Rattle.counting.proofs.Sums.{sum-next}
 use Rattle.counting.proofs.Searches.{never, and-left, and-right, and-both}
 

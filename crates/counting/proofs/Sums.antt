@@ -26,13 +26,15 @@
 --   differ-bits              == bits differ where their sum is odd
 --   sum-part                 == the first terms are no more than all of them
 --   sum-next                 == nor are the first terms and the next
+--   sum-const                == k terms of a each add up to k * a
+--   sum-within               == a number below a sum lies in one of its terms: so far past the terms before it
 -- Assumes nothing.
 use mathlib.Core.Path.{_≡_, refl, sym, ap, ap₂, _∙_}
 use mathlib.Core.Logic.{inl, inr}
 use mathlib.Core.Bool.{Bool, not}
-use Prim.Native.Nat.{ℕ, zero, suc, _+_, _*_, _≤_, _<_, zero-le}
+use Prim.Native.Nat.{ℕ, zero, suc, _+_, _*_, _-_, _≤_, _<_, zero-le}
 use native.Mathlib.Nat.{add-zero, add-suc, suc-mul, mul-zero, mul-add, add-mul, zero-mul, one-mul, eq-zero-or-pos, not-suc-le-zero}
-use native.Mathlib.Decide.{ℕ-discrete}
+use native.Mathlib.Decide.{ℕ-discrete, decLt}
 use native.Mathlib.Omega.{arith}
 use borrow.Author.Tests.{eq-eqb, ne-eqb}
 use Rattle.counting.specs.Paper.Sum.{sumBelow, flag, same, unequal}
@@ -244,3 +246,19 @@ sum-part k (suc n) f h =
 pub sum-next : (k n : ℕ) (f : ℕ → ℕ) → k < n → sumBelow k f + f k ≤ sumBelow n f
 unfolding sumBelow
 sum-next k n f h = sum-part (suc k) n f h
+
+-- k terms of a each
+pub sum-const : (k a : ℕ) → sumBelow k (λ _. a) ≡ k * a
+unfolding sumBelow
+sum-const zero a = sym (zero-mul a)
+sum-const (suc k) a = omega (arith, sum-const k a, suc-mul k a)
+
+-- a number below a sum lies in one of its terms
+pub sum-within : (k : ℕ) (w : ℕ → ℕ) (p : ℕ) → p < sumBelow k w → (j : ℕ) × (q : ℕ) × (j < k) × (q < w j) × (p ≡ sumBelow j w + q)
+unfolding sumBelow
+sum-within zero w p h = absurd (not-suc-le-zero h)
+sum-within (suc k) w p h =
+    elim (decLt p (sumBelow k w)) [
+      | yes l ↦ let r = sum-within k w p l in (r .0, r .1, omega (arith, r .2), r .3, r .4)
+      | no g ↦ (k, p - sumBelow k w, omega arith, omega arith, omega arith)
+    ]

@@ -1,5 +1,4 @@
 -- The vocabulary that every other crate counts with.
 pub mod Paper
 pub mod Places
-pub mod Joined
 pub mod Digits

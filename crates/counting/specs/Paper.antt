@@ -2,4 +2,5 @@
 pub mod Sum
 pub mod Search
 pub mod Lists
+pub mod Joined
 pub mod Integers

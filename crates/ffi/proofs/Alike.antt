@@ -1,6 +1,7 @@
 -- A setting that stands for another gives the same answers and writes the same.
 --   unfit-verdict     == a setting out of range is refused as 6, after the matrix check
 --   iterative-alike   == what iterative voting answers by a setting's stand-in it answers by the setting
+--   indexed-alike     == the same with an index
 --   quantise-alike    == what the quantiser answers by a setting's stand-in it answers by the setting
 -- Assumes nothing.
 use mathlib.Core.Path.{_≡_, refl, sym, subst, _∙_}
@@ -18,7 +19,11 @@ use Rattle.quantiser_levels.specs.Paper.Samples.{Setting, settingFits, quantise
 use Rattle.quantiser.specs.Paper.Call.{Quantised}
 use Rattle.iterative_core.specs.Paper.Iterative.{samplesVerdict, iterativeVerdict, iterativeOf, iterativeWord, iterativeLevels}
 use Rattle.iterative_core.specs.Paper.Call.{IterativeAnswered}
+use Rattle.matrix_index.specs.Paper.Index.{ownVerdict}
+use Rattle.matrix_index_check.specs.Paper.Call.{indexedVerdict}
+use Rattle.iterative_indexed.specs.Paper.Call.{iterativeIndexedVerdict, iterativeIndexedOf, IterativeIndexedAnswered}
 use Rattle.ffi_codes.specs.Settings.{StandsFor}
+use Rattle.ffi.proofs.Bounds.{and-then-twice}
 
 -- what a refusal by 6 says and writes does not turn on the setting
 module _ (v : Verdict) where
@@ -42,6 +47,12 @@ pub unfit-verdict : (H : Matrix) (S : Setting) (xs : List Float) (b l : ℕ) →
 unfolding iterativeVerdict samplesVerdict
 unfit-verdict H S xs b l e = rw e
 
+-- the same, after matrix and index
+unfit-indexed : (H : Matrix) (x : List ℕ) (S : Setting) (xs : List Float) (b l : ℕ) → settingFits S ≡ false
+    → iterativeIndexedVerdict H x S xs b l ≡ andThen (andThen (checkOf H) (ownVerdict H x)) (refused 6 0)
+unfolding iterativeIndexedVerdict indexedVerdict samplesVerdict
+unfit-indexed H x S xs b l e = rw e (sym (and-then-twice (checkOf H) (ownVerdict H x) (refused 6 0)))
+
 unfit-quantise : (S : Setting) (xs : List Float) (l b : ℕ) → settingFits S ≡ false → quantiseVerdict S xs l b ≡ refused 6 0
 unfolding quantiseVerdict
 unfit-quantise S xs l b e = rw e
@@ -60,6 +71,24 @@ module _ (S T : Setting) (st : StandsFor S T) (xs : List Float) (said : Said) (w
             answer = a .answer ∙ rw (vT, vS) (says-six (checkOf H) _ _);
             word = a .word ∙ rw (vT, vS) (keeps-six (checkOf H) (iterativeWord H T xs) w ∙ sym (keeps-six (checkOf H) (iterativeWord H S xs) w));
             levels = a .levels ∙ rw (vT, vS) (keeps-six (checkOf H) (iterativeLevels H T xs) ls ∙ sym (keeps-six (checkOf H) (iterativeLevels H S xs) ls));
+          }
+
+  -- the same with an index
+  pub indexed-alike : (H : Matrix) (x : List ℕ) → IterativeIndexedAnswered H x T xs said w w′ ls ls′ → IterativeIndexedAnswered H x S xs said w w′ ls ls′
+  unfolding iterativeIndexedOf
+  indexed-alike H x a = cases (settingFits S) (λ y. subst (λ (X : Setting). IterativeIndexedAnswered H x X xs said w w′ ls ls′) (st .same y) a) unfit
+    where
+      asked : Verdict
+      asked = andThen (checkOf H) (ownVerdict H x)
+
+      unfit : settingFits S ≡ false → IterativeIndexedAnswered H x S xs said w w′ ls ls′
+      unfit n =
+          let vT = unfit-indexed H x T xs (length w) (length ls) (st .fits ∙ n) in
+          let vS = unfit-indexed H x S xs (length w) (length ls) n in
+          record {
+            answer = a .answer ∙ rw (vT, vS) (says-six asked _ _);
+            word = a .word ∙ rw (vT, vS) (keeps-six asked (iterativeWord H T xs) w ∙ sym (keeps-six asked (iterativeWord H S xs) w));
+            levels = a .levels ∙ rw (vT, vS) (keeps-six asked (iterativeLevels H T xs) ls ∙ sym (keeps-six asked (iterativeLevels H S xs) ls));
           }
 
 -- what the quantiser answers by a setting's stand-in it answers by the setting

@@ -2,9 +2,12 @@
 --   failing-small     == a count of failing checks has room
 --   report-small      == a one-step report on an accepted matrix has room
 --   one-step-small    == every answer of one-step voting has room
+--   one-step-indexed-small   == so has every answer of one-step voting by an index
+--   and-then-twice    == two questions before a third are one before it
 --   iterative-small   == every answer of iterative voting has room, as its rounds are within the round limit
+--   iterative-indexed-small   == so has every answer of iterative voting by an index
 -- Assumes nothing.
-use mathlib.Core.Path.{_≡_, refl}
+use mathlib.Core.Path.{_≡_, refl, subst}
 use mathlib.Core.Bool.{Bool, true, false, cond}
 use mathlib.Core.List.{List}
 use Prim.Native.Nat.{ℕ, _≤_}
@@ -20,6 +23,8 @@ use Rattle.matrix.specs.Paper.Check.{checkOf}
 use Rattle.matrix.specs.Paper.PlainCheck.{Accepted}
 use Rattle.matrix.proofs.Rows.{failing-le}
 use Rattle.matrix.proofs.PlainCheck.{accepted-is}
+use Rattle.matrix_index.specs.Paper.Index.{ownVerdict}
+use Rattle.matrix_index_check.specs.Paper.Call.{indexedVerdict}
 use Rattle.syndrome.specs.Paper.Failing.{failingVerdict, failingOf}
 use Rattle.majority_logic.specs.Paper.OneStep.{stepWord, stepRounds, oneStepReport, oneStepVerdict, oneStepOf}
 use Rattle.quantiser_levels.specs.Paper.Samples.{Setting, settingFits, largest, hardBit}
@@ -27,6 +32,8 @@ use Rattle.quantiser_settings.proofs.Ranges.{fits-reads}
 use Rattle.iterative_core.specs.Paper.Iterative.{startOf, endFrom, reportAt, samplesVerdict, iterativeVerdict, iterativeOf}
 use Rattle.iterative_rounds.proofs.Ends.{rounds-within}
 use Rattle.iterative_core.proofs.Changes.{changed-le}
+use Rattle.one_step_indexed.specs.Paper.Call.{oneStepIndexedVerdict, oneStepIndexedOf}
+use Rattle.iterative_indexed.specs.Paper.Call.{iterativeIndexedVerdict, iterativeIndexedOf}
 use Rattle.ffi_codes.specs.Codes.{Small}
 
 -- an answer is small where its report is so on an accepted matrix
@@ -65,22 +72,44 @@ pub one-step-small : (H : Matrix) (w : List ℕ) (room : ℕ) → Small (oneStep
 unfolding oneStepOf oneStepVerdict
 one-step-small H w room = after-small (checkOf H) _ _ (λ e. report-small H (accepted-is H e) (bitAt w))
 
+-- so has every answer of one-step voting by an index
+pub one-step-indexed-small : (H : Matrix) (x w : List ℕ) (room : ℕ) → Small (oneStepIndexedOf H x w room)
+unfolding oneStepIndexedOf oneStepIndexedVerdict indexedVerdict
+one-step-indexed-small H x w room = after-small (checkOf H) _ _ (λ e. report-small H (accepted-is H e) (bitAt w))
+
+-- a setting out of range is refused
+six-small : (v : Verdict) (s : Said) → Small (after (andThen v (refused 6 0)) s)
+six-small accepted s = tt
+six-small (refused k x) s = tt
+
+-- two questions before a third are one before it
+pub and-then-twice : (u v w : Verdict) → andThen (andThen u v) w ≡ andThen u (andThen v w)
+and-then-twice accepted v w = refl
+and-then-twice (refused k x) v w = refl
+
+-- a report of iterative voting, with a setting in range
+fit-small : (H : Matrix) (S : Setting) (xs : List Float) → settingFits S ≡ true → checkOf H ≡ accepted → Small (reportAt H (hardBit xs) (endFrom H S xs))
+unfolding reportAt endFrom
+fit-small H S xs y e =
+    let a = accepted-is H e .sizes in
+    let t = endFrom H S xs in
+    record {
+      rounds = omega (arith, rounds-within H (largest (S .bits)) (S .limit) (startOf S xs), fits-reads S y .limit);
+      failing = omega (arith, failing-le H (t .last .z), a .m-most);
+      changed = omega (arith, changed-le H (t .last .z) (hardBit xs), a .n-most);
+    }
+
 -- iterative voting: its rounds are within the round limit
 pub iterative-small : (H : Matrix) (S : Setting) (xs : List Float) (b l : ℕ) → Small (iterativeOf H S xs b l)
-unfolding iterativeOf iterativeVerdict samplesVerdict reportAt endFrom
+unfolding iterativeOf iterativeVerdict samplesVerdict
 iterative-small H S xs b l =
-    cases (settingFits S) (λ y. after-small (checkOf H) _ _ (fit y)) (λ n. rw n (six (checkOf H) _))
-  where
-    six : (v : Verdict) (s : Said) → Small (after (andThen v (refused 6 0)) s)
-    six accepted s = tt
-    six (refused k x) s = tt
+    cases (settingFits S) (λ y. after-small (checkOf H) _ _ (fit-small H S xs y)) (λ n. rw n (six-small (checkOf H) _))
 
-    fit : settingFits S ≡ true → checkOf H ≡ accepted → Small (reportAt H (hardBit xs) (endFrom H S xs))
-    fit y e =
-        let a = accepted-is H e .sizes in
-        let t = endFrom H S xs in
-        record {
-          rounds = omega (arith, rounds-within H (largest (S .bits)) (S .limit) (startOf S xs), fits-reads S y .limit);
-          failing = omega (arith, failing-le H (t .last .z), a .m-most);
-          changed = omega (arith, changed-le H (t .last .z) (hardBit xs), a .n-most);
-        }
+-- so has every answer of iterative voting by an index
+pub iterative-indexed-small : (H : Matrix) (x : List ℕ) (S : Setting) (xs : List Float) (b l : ℕ) → Small (iterativeIndexedOf H x S xs b l)
+unfolding iterativeIndexedOf iterativeIndexedVerdict indexedVerdict samplesVerdict
+iterative-indexed-small H x S xs b l =
+    cases (settingFits S) (λ y. after-small (checkOf H) _ _ (fit-small H S xs y))
+    (λ n. rw n (
+    subst (λ (v : Verdict). Small (after v (reportAt H (hardBit xs) (endFrom H S xs)))) (and-then-twice (checkOf H) (ownVerdict H x) (refused 6 0))
+    (six-small (andThen (checkOf H) (ownVerdict H x)) (reportAt H (hardBit xs) (endFrom H S xs)))))

@@ -1,6 +1,7 @@
 -- What the exported calls answer and write.
 --   QuantisedAs S ..     == what `mlgd_quantise` answers and writes
 --   DecodedAs H S ..     == what `mlgd_iterative` answers and writes
+--   DecodedByIndex H x S ..   == what `mlgd_iterative_indexed` answers and writes
 --   leftBy t l h         == l where the test t passes, else refusal 7 with h kept
 --   onRecord c l h       == what a call leaves that is lent the cells c: l, or refusal 7 where they are not as many as a record's
 --   CalledAs l ..        == the answer and every lent cell after a call are those of l
@@ -17,6 +18,7 @@ use Rattle.answers.specs.Paper.Answers.{refusal, acceptance, after, written}
 use Rattle.matrix.specs.Paper.Code.{Matrix}
 use Rattle.quantiser_levels.specs.Paper.Samples.{Setting, quantiseVerdict, levelsOf, hardWord}
 use Rattle.iterative_core.specs.Paper.Iterative.{iterativeVerdict, iterativeOf, iterativeWord, iterativeLevels}
+use Rattle.iterative_indexed.specs.Paper.Call.{iterativeIndexedVerdict, iterativeIndexedOf}
 use Rattle.session_asking.specs.Paper.Asked.{Held}
 use Rattle.session.specs.Paper.Steps.{Left}
 use Rattle.ffi_codes.specs.Codes.{codeOf}
@@ -33,6 +35,12 @@ pub record DecodedAs (H : Matrix) (S : Setting) (xs : List Float) (r : ℕ) (w w
   pub answer : r ≡ codeOf (iterativeOf H S xs (length w) (length ls))
   pub word : w′ ≡ written (iterativeVerdict H S xs (length w) (length ls)) (iterativeWord H S xs) w
   pub levels : ls′ ≡ written (iterativeVerdict H S xs (length w) (length ls)) (iterativeLevels H S xs) ls
+
+-- iterative voting by matrix and index: the same
+pub record DecodedByIndex (H : Matrix) (x : List ℕ) (S : Setting) (xs : List Float) (r : ℕ) (w w′ : List ℕ) (ls ls′ : List ℤ) : Type 0 where
+  pub answer : r ≡ codeOf (iterativeIndexedOf H x S xs (length w) (length ls))
+  pub word : w′ ≡ written (iterativeIndexedVerdict H x S xs (length w) (length ls)) (iterativeWord H S xs) w
+  pub levels : ls′ ≡ written (iterativeIndexedVerdict H x S xs (length w) (length ls)) (iterativeLevels H S xs) ls
 
 -- another number of cells than a record's is refused as 7 before anything else is asked
 abbrev pub leftBy : Bool → Left → Held → Left

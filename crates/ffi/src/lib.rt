@@ -14,14 +14,16 @@ ghost use lib.ListN.{length};
 ghost use Rattle.answers.specs.Paper.Answers.{acceptance, after, written};
 ghost use Rattle.matrix.specs.Paper.Code.{matrix};
 ghost use Rattle.matrix.specs.Paper.Check.{checkOf};
+ghost use Rattle.matrix_index.specs.Paper.Index.{indexOf, indexVerdict};
 ghost use Rattle.syndrome.specs.Paper.Failing.{failingOf};
 ghost use Rattle.majority_logic.specs.Paper.OneStep.{oneStepVerdict, oneStepOf, oneStepWord};
+ghost use Rattle.one_step_indexed.specs.Paper.Call.{oneStepIndexedVerdict, oneStepIndexedOf};
 ghost use Rattle.session_asking.specs.Paper.Asked.{lent};
 ghost use Rattle.session.specs.Paper.Steps.{openOf, stepOf};
 ghost use Rattle.ffi_codes.specs.Codes.{codeOf};
 ghost use Rattle.ffi_codes.specs.Records.{recordIn};
 ghost use Rattle.quantiser_settings.specs.Numbers.{settingBy};
-ghost use Rattle.ffi.specs.Calls.{QuantisedAs, DecodedAs, onRecord, CalledAs};
+ghost use Rattle.ffi.specs.Calls.{QuantisedAs, DecodedAs, DecodedByIndex, onRecord, CalledAs};
 
 // Refusal 7: what a call answers that is lent another number of cells than a record's.
 const NO_RECORD: u64 = 458752;
@@ -114,6 +116,69 @@ pub extern "C" fn mlgd_iterative(
         word,
         levels,
     );
+    answer_code(a)
+}
+
+// The index of a matrix.
+#[no_mangle]
+pub extern "C" fn mlgd_index(
+    n: u16,
+    m: u16,
+    rho: u16,
+    gamma: u16,
+    list: &[u16],
+    index: &mut [u16],
+) -> u64
+    ensures answer { λ r. ⌜ r ≡ codeOf (after (indexVerdict (matrix n m rho gamma (now (list .entry))) (length (now (index .entry)))) acceptance) ⌝ }
+    ensures index { λ r. ⌜ now (index .exit) ≡ written (indexVerdict (matrix n m rho gamma (now (list .entry))) (length (now (index .entry)))) (indexOf (matrix n m rho gamma (now (list .entry)))) (now (index .entry)) ⌝ }
+{
+    let shape = Shape { n, m, rho, gamma };
+    let a = matrix_index_check::index(shape, list, index);
+    checked_code(a)
+}
+
+// One-step voting by matrix and index.
+#[no_mangle]
+pub extern "C" fn mlgd_one_step_indexed(
+    n: u16,
+    m: u16,
+    rho: u16,
+    gamma: u16,
+    list: &[u16],
+    index: &[u16],
+    received: &[u8],
+    word: &mut [u8],
+) -> u64
+    ensures answer { λ r. ⌜ r ≡ codeOf (oneStepIndexedOf (matrix n m rho gamma (now (list .entry))) (now (index .entry)) (now (received .entry)) (length (now (word .entry)))) ⌝ }
+    ensures word { λ r. ⌜ now (word .exit) ≡ written (oneStepIndexedVerdict (matrix n m rho gamma (now (list .entry))) (now (index .entry)) (now (received .entry)) (length (now (word .entry)))) (oneStepWord (matrix n m rho gamma (now (list .entry))) (now (received .entry))) (now (word .entry)) ⌝ }
+{
+    let shape = Shape { n, m, rho, gamma };
+    let a = one_step_indexed::one_step_indexed(shape, list, index, received, word);
+    answer_code(a)
+}
+
+// Iterative voting by matrix and index.
+#[no_mangle]
+pub extern "C" fn mlgd_iterative_indexed(
+    n: u16,
+    m: u16,
+    rho: u16,
+    gamma: u16,
+    list: &[u16],
+    index: &[u16],
+    bits: u16,
+    limit: u16,
+    kind: u16,
+    step: f32,
+    samples: &[f32],
+    word: &mut [u8],
+    levels: &mut [Cell],
+) -> u64
+    ensures { λ r. ⌜ DecodedByIndex (matrix n m rho gamma (now (list .entry))) (now (index .entry)) (settingBy bits limit kind step) (now (samples .entry)) r (now (word .entry)) (now (word .exit)) (now (levels .entry)) (now (levels .exit)) ⌝ }
+{
+    let shape = Shape { n, m, rho, gamma };
+    let s = setting_of(bits, limit, kind, step);
+    let a = iterative_indexed::iterative_indexed(shape, list, index, s, samples, word, levels);
     answer_code(a)
 }
 

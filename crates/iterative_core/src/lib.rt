@@ -17,7 +17,7 @@ ghost use Rattle.matrix.specs.Paper.Shapes.{matrixOf};
 ghost use Rattle.quantiser_levels.specs.Paper.Samples.{largest};
 ghost use Rattle.quantiser_settings.specs.Paper.Settings.{settingOf};
 ghost use Rattle.quantiser.specs.Buffers.{Fillable};
-ghost use Rattle.matrix_index.specs.Index.{Indexed};
+ghost use Rattle.matrix_index.specs.Paper.Index.{indexOf};
 ghost use Rattle.iterative_core.specs.Paper.Iterative.{samplesVerdict};
 ghost use Rattle.iterative_core.specs.Calls.{CallLent, Started, Decoded};
 
@@ -85,7 +85,7 @@ pub fn iterative_accepted(
     word: &mut [u8],
     levels: &mut [Cell],
 ) -> Report
-    requires { ⌜ CallLent (matrixOf shape (now list)) (settingOf setting) (now samples) (now word) (now levels) × Indexed (matrixOf shape (now list)) (now index) ⌝ }
+    requires { ⌜ CallLent (matrixOf shape (now list)) (settingOf setting) (now samples) (now word) (now levels) × (now index ≡ indexOf (matrixOf shape (now list))) ⌝ }
     ensures { λ r. ⌜ Decoded (matrixOf shape (now (list .entry))) (settingOf setting) (now (samples .entry)) (reportOf r) (now (word .entry)) (now (word .exit)) (now (levels .entry)) (now (levels .exit)) ⌝ }
 {
     let n = shape.n as usize;

@@ -22,7 +22,8 @@ use Rattle.counting.specs.Places.{at}
 use Rattle.matrix.specs.Paper.Code.{Matrix, Word, failing}
 use Rattle.matrix.proofs.Rows.{failing-cong}
 use Rattle.majority_votes.specs.Tallies.{Tallied}
-use Rattle.iterative_tally.specs.Parities.{Parities, Retallied}
+use Rattle.syndrome_update.specs.Parities.{Parities}
+use Rattle.iterative_tally.specs.Retally.{Retallied}
 use Rattle.iterative_rounds.specs.Paper.Rounds.{State}
 use Rattle.iterative_levels.specs.Levels.{biased, unbiased, Moved}
 use Rattle.iterative_rounds.specs.Paper.Ends.{stateAt}

@@ -14,7 +14,7 @@ use lib.ListN.{length}
 use Rattle.counting.specs.Places.{at}
 use Rattle.matrix.specs.Paper.Code.{Matrix, Word, failing}
 use Rattle.matrix.specs.Paper.PlainCheck.{Accepted}
-use Rattle.iterative_tally.specs.Parities.{Retallied}
+use Rattle.iterative_tally.specs.Retally.{Retallied}
 use Rattle.iterative_rounds.specs.Paper.Rounds.{State, state, End, endOf}
 use Rattle.iterative_levels.specs.Levels.{biased, unbiased, Moved}
 use Rattle.quantiser_levels.specs.Paper.Samples.{mostLevel}

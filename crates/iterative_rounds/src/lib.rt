@@ -3,10 +3,11 @@
 use iterative_levels::Kept;
 use majority_votes::Stop;
 use matrix_check::Shape;
+ghost use mathlib.Core.Path.{_≡_};
 ghost use Rattle.counting.specs.Places.{at};
 ghost use Rattle.matrix.specs.Paper.Shapes.{matrixOf};
-ghost use Rattle.matrix_index.specs.Index.{Indexed};
-ghost use Rattle.iterative_tally.specs.Parities.{Parities};
+ghost use Rattle.matrix_index.specs.Paper.Index.{indexOf};
+ghost use Rattle.syndrome_update.specs.Parities.{Parities};
 ghost use Rattle.iterative_rounds.specs.Runs.{RunLent, Rounded, RunLeft};
 
 // One round, steps 4 to 6: bits and levels by the votes of the old bits, then the votes of the new ones.
@@ -22,7 +23,7 @@ fn round(
     votes: &mut [u8; 1023],
 ) -> u16
     requires { ⌜ RunLent (matrixOf shape (now list)) middle (now bits) (now levels) ⌝ }
-    requires { ⌜ Indexed (matrixOf shape (now list)) (now index) × Parities (matrixOf shape (now list)) (at (now bits)) (now parity) ⌝ }
+    requires { ⌜ (now index ≡ indexOf (matrixOf shape (now list))) × Parities (matrixOf shape (now list)) (at (now bits)) (now parity) ⌝ }
     ensures { λ r. ⌜ Rounded (matrixOf shape (now (list .entry))) middle (now (votes .entry)) (now (bits .entry)) (now (levels .entry)) (now (bits .exit)) (now (levels .exit)) (now (parity .entry)) (now (parity .exit)) (now (votes .exit)) r ⌝ }
 {
     let n = shape.n as usize;
@@ -44,7 +45,7 @@ pub fn run(
     bits: &mut [u8; 1023],
     levels: &mut [Kept; 1023],
 ) -> Stop
-    requires { ⌜ RunLent (matrixOf shape (now list)) middle (now bits) (now levels) × Indexed (matrixOf shape (now list)) (now index) ⌝ }
+    requires { ⌜ RunLent (matrixOf shape (now list)) middle (now bits) (now levels) × (now index ≡ indexOf (matrixOf shape (now list))) ⌝ }
     ensures { λ r. ⌜ RunLeft (matrixOf shape (now (list .entry))) middle limit (now (bits .entry)) (now (levels .entry)) (now (bits .exit)) (now (levels .exit)) (r .rounds) (r .failing) ⌝ }
 {
     let zeros = [0u8; 1023];

@@ -1,2 +1,2 @@
--- What the contracts of `iterative_tally` cite.
-pub mod Parities
+-- What the contract of `iterative_tally` cites.
+pub mod Retally

@@ -2,14 +2,18 @@
 --   weight-least   == no column of the matrix has fewer than gamma ones
 --   weight-small   == no column has more than 32, also none that the matrix does not have
 --   weight-equal   == every column of the matrix has gamma ones, as its sizes fit each other
+--   row-total      == a row has rho ones
+--   weights-total  == all columns together have m * rho ones
 -- Assumes nothing.
-use mathlib.Core.Path.{_≡_}
+use mathlib.Core.Path.{_≡_, sym, _∙_}
 use Prim.Native.Nat.{ℕ, _*_, _≤_, _<_}
 use native.Mathlib.Decide.{decLt}
 use native.Mathlib.Omega.{arith}
-use Rattle.matrix.specs.Paper.Code.{Matrix, weight}
-use Rattle.matrix.specs.Paper.PlainCheck.{Accepted}
-use Rattle.matrix.proofs.Rows.{weight-outside}
+use Rattle.counting.specs.Paper.Sum.{sumBelow}
+use Rattle.counting.proofs.Sums.{sum-cong, sum-swap, sum-const}
+use Rattle.matrix.specs.Paper.Code.{Matrix, has, weight}
+use Rattle.matrix.specs.Paper.PlainCheck.{Rows, Accepted}
+use Rattle.matrix.proofs.Rows.{row-sum, weight-outside}
 
 module _ (H : Matrix) (a : Accepted H) where
   -- no column of the matrix has fewer than gamma ones
@@ -25,3 +29,17 @@ module _ (H : Matrix) (a : Accepted H) where
   -- every column of the matrix has gamma ones
   pub weight-equal : H .m * H .rho ≡ H .n * H .gamma → (j : ℕ) → j < H .n → weight H j ≡ H .gamma
   weight-equal e j l = a .weights j l
+
+module _ (H : Matrix) (r : Rows H) where
+  -- a row has rho ones
+  pub row-total : (i : ℕ) → i < H .m → sumBelow (H .n) (λ j. has H i j) ≡ H .rho
+  row-total i l =
+      sum-cong (H .n) {f = λ j. has H i j} {g = λ j. has H i j * 1} (λ j h. omega arith)
+      ∙ sym (row-sum H r i l (λ _. 1))
+      ∙ sum-const (H .rho) 1
+      ∙ omega arith
+
+  -- all columns together have m * rho ones
+  pub weights-total : sumBelow (H .n) (weight H) ≡ H .m * H .rho
+  unfolding weight
+  weights-total = sum-swap (H .n) (H .m) (λ j i. has H i j) ∙ sum-cong (H .m) row-total ∙ sum-const (H .m) (H .rho)

@@ -1,1 +1,5 @@
-pub mod Entries
+pub mod Parts
+pub mod Cursors
+pub mod Filling
+pub mod Columns
+pub mod PlainIndex

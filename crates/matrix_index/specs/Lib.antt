@@ -1,2 +1,3 @@
 -- What the contracts of `matrix_index` cite.
-pub mod Index
+pub mod Paper
+pub mod Filling

@@ -1,8 +1,10 @@
 -- The report and the word of an accepted call.
 --   packed-word    == the bits after the vote, packed, are the word of the definition
 --   stepped-bits   == the bits after the vote are bits
+--   hand-back-lent == what the call is lent, as what is handed back is
+--   voted-call     == what is handed back is the call's
 --   written-long   == the written bytes are as many as the received ones
---   voted-call     == what is packed, counted and reported of them is the call's
+--   handed-back    == what is packed, counted and reported is what is handed back
 -- Assumes nothing.
 use mathlib.Core.Path.{_≡_, refl, sym, ap, ap₂, _∙_}
 use mathlib.Core.List.{List}
@@ -22,7 +24,7 @@ use Rattle.matrix.proofs.Rows.{failing-cong}
 use Rattle.majority_logic.specs.Paper.OneStep.{stepWord, stepRounds, oneStepReport, oneStepWord}
 use Rattle.majority_logic.proofs.Agreement.{stepWord-cong, stepRounds-cong}
 use Rattle.majority_logic.proofs.Correction.{stepWord-bit}
-use Rattle.one_step_core.specs.Stepped.{Stepped, VoteLent, Voted}
+use Rattle.one_step_core.specs.Stepped.{Stepped, VoteLent, HandBackLent, HandedBack, Voted}
 
 module _ (H : Matrix) (w old : List ℕ) (l : VoteLent H w old) where
   received-word : Word H (bitAt w)
@@ -65,23 +67,35 @@ module _ (H : Matrix) (w old : List ℕ) (l : VoteLent H w old) where
     rounds-is : rounds ≡ stepRounds H (bitAt w)
     rounds-is = s .rounds-are ∙ stepRounds-cong H (l .matrix .rows) (at bits) (bitAt w) (u .each)
 
-    -- the written bytes are as many as the received ones
-    pub written-long : (out : List ℕ) → out ≡ over (pack (H .n) (at new)) old → length (take (bytesFor (H .n)) out) ≡ bytesFor (H .n)
-    written-long out o =
-        let k : length (pack (H .n) (at new)) ≡ bytesFor (H .n) = length-pack (H .n) (at new) in
-        ap₂ (λ (x : ℕ) (y : List ℕ). length (take x y)) (sym k) o ∙ ap length (take-over (pack (H .n) (at new)) old) ∙ k
+    -- what the call is lent, as what is handed back is
+    pub hand-back-lent : HandBackLent (H .n) w new old
+    hand-back-lent = record { few = l .matrix .sizes .n-most; long = l .long; bits = stepped-bits; room = l .room }
 
-    -- what is packed, counted and reported of them is the call's
-    pub voted-call : (out : List ℕ) (changed : ℕ) (said : Said) → out ≡ over (pack (H .n) (at new)) old
-        → changed ≡ distance (8 * length (take (bytesFor (H .n)) out)) (bitAt (take (bytesFor (H .n)) out)) (bitAt w)
-        → said ≡ report (outcomeBy f) rounds f changed → Voted H w old out said
+    -- what is handed back is the call's
+    pub voted-call : (out : List ℕ) (said : Said) → HandedBack (H .n) w (at new) rounds f old out said → Voted H w old out said
     unfolding oneStepReport
-    voted-call out changed said o d e =
-        let p : out ≡ over (oneStepWord H w) old = o ∙ ap (λ (x : List ℕ). over x old) packed-word in
-        let k : length (oneStepWord H w) ≡ bytesFor (H .n) = ap length (sym packed-word) ∙ length-pack (H .n) (at new) in
-        let t : take (bytesFor (H .n)) out ≡ oneStepWord H w =
-        ap₂ (λ (x : ℕ) (y : List ℕ). take x y) (sym k) p ∙ take-over (oneStepWord H w) old in
-        let c : changed ≡ distance (H .n) (stepWord H (bitAt w)) (bitAt w) =
-        d ∙ ap (λ (x : List ℕ). distance (8 * length x) (bitAt x) (bitAt w)) t
-        ∙ ap (λ (x : ℕ). distance (8 * x) (bitAt (oneStepWord H w)) (bitAt w)) k ∙ changed-is in
-        record { says = e ∙ rw (failing-is, rounds-is, c) refl; word = p }
+    voted-call out said h =
+        let c : distance (8 * bytesFor (H .n)) (bitAt (pack (H .n) (at new))) (bitAt w) ≡ distance (H .n) (stepWord H (bitAt w)) (bitAt w) =
+        ap (λ (x : List ℕ). distance (8 * bytesFor (H .n)) (bitAt x) (bitAt w)) packed-word ∙ changed-is in
+        record { says = h .says ∙ rw (failing-is, rounds-is, c) refl; word = h .word ∙ ap (λ (x : List ℕ). over x old) packed-word }
+
+-- ---- what is packed, and counted of it
+
+module _ (n : ℕ) (z : ℕ → ℕ) (old out : List ℕ) (o : out ≡ over (pack n z) old) where
+  -- the front of the buffer is the packed bits
+  front : take (bytesFor n) out ≡ pack n z
+  front = ap₂ (λ (x : ℕ) (y : List ℕ). take x y) (sym (length-pack n z)) o ∙ take-over (pack n z) old
+
+  -- the written bytes are as many as the received ones
+  pub written-long : length (take (bytesFor n) out) ≡ bytesFor n
+  written-long = ap length front ∙ length-pack n z
+
+  -- so the report is that of the packed bits
+  pub handed-back : (w : List ℕ) (rounds f changed : ℕ) (said : Said)
+      → changed ≡ distance (8 * length (take (bytesFor n) out)) (bitAt (take (bytesFor n) out)) (bitAt w) → said ≡ report (outcomeBy f) rounds f changed
+      → HandedBack n w z rounds f old out said
+  handed-back w rounds f changed said d e =
+      let c : changed ≡ distance (8 * bytesFor n) (bitAt (pack n z)) (bitAt w) =
+      d ∙ ap (λ (x : List ℕ). distance (8 * length x) (bitAt x) (bitAt w)) front
+      ∙ ap (λ (x : ℕ). distance (8 * x) (bitAt (pack n z)) (bitAt w)) (length-pack n z) in
+      record { says = e ∙ rw c refl; word = o }

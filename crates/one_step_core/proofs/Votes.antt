@@ -34,18 +34,18 @@ word-kept : (H : Matrix) (z : ℕ → ℕ) → failing H z ≡ 0 → (j : ℕ) �
 unfolding stepWord
 word-kept H z e j = rw (eq-eqb (failing H z) 0 e)
 
-module _ (H : Matrix) (a : Accepted H) (bits v : List ℕ) (f : ℕ) (t : Tallied H (at bits) v f) where
-  -- no check fails: nothing moves
-  pub stepped-clean : f ≡ 0 → Stepped H bits bits 0 0
-  stepped-clean e =
-      let z : failing H (at bits) ≡ 0 = sym (t .count) ∙ e in
-      record {
-        each = λ j h. sym (word-kept H (at bits) z j);
-        rest = λ j past. refl;
-        rounds-are = sym (rounds-none H (at bits) z);
-        failing-are = sym (failing-cong H (a .rows) (stepWord H (at bits)) (at bits) (λ j h. word-kept H (at bits) z j) ∙ z);
-      }
+-- no check fails: nothing moves
+pub stepped-clean : (H : Matrix) (a : Accepted H) (bits : List ℕ) (f : ℕ) → f ≡ failing H (at bits) → f ≡ 0 → Stepped H bits bits 0 0
+stepped-clean H a bits f c e =
+    let z : failing H (at bits) ≡ 0 = sym c ∙ e in
+    record {
+      each = λ j h. sym (word-kept H (at bits) z j);
+      rest = λ j past. refl;
+      rounds-are = sym (rounds-none H (at bits) z);
+      failing-are = sym (failing-cong H (a .rows) (stepWord H (at bits)) (at bits) (λ j h. word-kept H (at bits) z j) ∙ z);
+    }
 
+module _ (H : Matrix) (a : Accepted H) (bits v : List ℕ) (f : ℕ) (t : Tallied H (at bits) v f) where
   -- the bits after the flips
   voted-word : (new : List ℕ) → VotedBits (H .n) (H .gamma) v bits new → (j : ℕ) → j < H .n → at new j ≡ stepWord H (at bits) j
   voted-word new w j h =

@@ -8,7 +8,7 @@ ghost use Rattle.counting.specs.Places.{at};
 ghost use Rattle.matrix.specs.Paper.Code.{Word};
 ghost use Rattle.matrix.specs.Paper.PlainCheck.{Accepted};
 ghost use Rattle.matrix.specs.Paper.Shapes.{matrixOf};
-ghost use Rattle.one_step_core.specs.Stepped.{Stepped, VoteLent, Voted};
+ghost use Rattle.one_step_core.specs.Stepped.{Stepped, VoteLent, HandBackLent, HandedBack, Voted};
 
 // One vote on an unpacked word: nothing moves where no check fails.
 fn vote(shape: Shape, list: &[u16], bits: &mut [u8; 1023]) -> Stop
@@ -31,17 +31,32 @@ fn vote(shape: Shape, list: &[u16], bits: &mut [u8; 1023]) -> Stop
     }
 }
 
+// Packs the bits after the vote into the word's buffer, counts where they differ from the received word, and reports.
+// Only this repository's crates call it, after a vote.
+pub fn hand_back(
+    n: usize,
+    received: &[u8],
+    stop: Stop,
+    bits: &[u8; 1023],
+    word: &mut [u8],
+) -> Report
+    requires { ⌜ HandBackLent n (now received) (now bits) (now word) ⌝ }
+    ensures { λ r. ⌜ HandedBack n (now (received .entry)) (at (now (bits .entry))) (stop .rounds) (stop .failing) (now (word .entry)) (now (word .exit)) (reportOf r) ⌝ }
+{
+    let need = (n + 7) / 8;
+    packed_word::pack_into(bits, n, word);
+    let changed = packed_word::differing(&word[..need], received);
+    answers::ended(stop.rounds, stop.failing, changed)
+}
+
 // The core, for a matrix that the check has accepted. Only this repository's crates call it, after asking the refusals.
 pub fn one_step_accepted(shape: Shape, list: &[u16], received: &[u8], word: &mut [u8]) -> Report
     requires { ⌜ VoteLent (matrixOf shape (now list)) (now received) (now word) ⌝ }
     ensures { λ r. ⌜ Voted (matrixOf shape (now (list .entry))) (now (received .entry)) (now (word .entry)) (now (word .exit)) (reportOf r) ⌝ }
 {
     let n = shape.n as usize;
-    let need = (n + 7) / 8;
     let mut bits = [0u8; 1023];
     packed_word::unpack(received, n, &mut bits);
-    let v = vote(shape, list, &mut bits);
-    packed_word::pack_into(&bits, n, word);
-    let changed = packed_word::differing(&word[..need], received);
-    answers::ended(v.rounds, v.failing, changed)
+    let stop = vote(shape, list, &mut bits);
+    hand_back(n, received, stop, &bits, word)
 }

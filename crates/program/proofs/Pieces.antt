@@ -11,39 +11,57 @@ use Prim.Native.Nat.{ℕ, _≤_, _<_}
 use native.Mathlib.Omega.{arith}
 use lib.ListN.{length, take, length-take}
 use Rattle.program_ends.specs.Stages.{Awaited, wanted, firstReply}
-use Rattle.program_ends.specs.Replies.{Ready, RepliedOver}
-use Rattle.program_ends.proofs.Stages.{wanted-fits, ready-next, rank, rank-falls}
+use Rattle.program_ends.specs.Replies.{Readable, IndexHeld, RepliedOver, indexAfter}
+use Rattle.program_ends.proofs.Stages.{wanted-fits, readable-next, held-next, rank, rank-falls}
 use Rattle.program.specs.Pieces.{PieceLent, Piece, Replies, more}
 
 -- the run begins
-pub lent-first : {a : Awaited} {w e : ℕ} {l input out₀ out : List ℕ} → RepliedOver firstReply a w e out₀ out
-    → length l ≡ 32736 → length input ≡ 65536 → length out ≡ 65536
-    → PieceLent a w l input out
-lent-first r x y z =
-    record { ready = subst Ready (sym (r .reply .awaited)) tt; want = r .reply .want ∙ ap wanted (sym (r .reply .awaited)); list = x; long = y; room = z }
+pub lent-first : {a : Awaited} {w e : ℕ} {l x input out₀ out : List ℕ} → RepliedOver firstReply a w e out₀ out
+    → length l ≡ 32736 → length x ≡ 33760 → length input ≡ 65536 → length out ≡ 65536
+    → PieceLent a w l x input out
+lent-first {x = x} r f g h k =
+    record {
+      readable = subst Readable (sym (r .reply .awaited)) tt;
+      want = r .reply .want ∙ ap wanted (sym (r .reply .awaited));
+      list = f;
+      index = g;
+      held = subst (λ (a : Awaited). IndexHeld a x) (sym (r .reply .awaited)) tt;
+      long = h;
+      room = k;
+    }
 
-module _ {a : Awaited} {w : ℕ} {l input out : List ℕ} (b : PieceLent a w l input out) where
+module _ {a : Awaited} {w : ℕ} {l x input out : List ℕ} (b : PieceLent a w l x input out) where
   -- what is wanted fits the input buffer
   pub fits : w ≤ length input
-  fits = omega (arith, b .want, b .long, wanted-fits a (b .ready))
+  fits = omega (arith, b .want, b .long, wanted-fits a (b .readable))
 
-  module _ {a′ : Awaited} {w′ e : ℕ} {l′ input′ out′ : List ℕ} (p : Piece a l l′ input input′ a′ w′ e out out′) where
+  module _ {a′ : Awaited} {w′ e : ℕ} {l′ x′ input′ out′ : List ℕ} (p : Piece a l l′ x x′ input input′ a′ w′ e out out′) where
+    -- the index that is needed next is held
+    held-then : IndexHeld a′ x′
+    held-then =
+        let bs = take (p .got) input′ in
+        subst (λ (y : List ℕ). IndexHeld a′ y) (sym (p .advanced .index))
+        (subst (λ (c : Awaited). IndexHeld c (indexAfter a bs x)) (sym (p .advanced .replied .reply .awaited)) (held-next a bs x (b .readable) (b .held)))
+
     -- after a piece the run can go on
-    pub lent-next : length l′ ≡ length l → length input′ ≡ length input → length out′ ≡ length out → PieceLent a′ w′ l′ input′ out′
-    lent-next x y z =
+    pub lent-next : length l′ ≡ length l → length x′ ≡ length x → length input′ ≡ length input → length out′ ≡ length out
+        → PieceLent a′ w′ l′ x′ input′ out′
+    lent-next f g h k =
         record {
-          ready = subst Ready (sym (p .advanced .replied .reply .awaited)) (ready-next a (take (p .got) input′) (b .ready));
+          readable = subst Readable (sym (p .advanced .replied .reply .awaited)) (readable-next a (take (p .got) input′) (b .readable));
           want = p .advanced .replied .reply .want ∙ ap wanted (sym (p .advanced .replied .reply .awaited));
-          list = x ∙ b .list;
-          long = y ∙ b .long;
-          room = z ∙ b .room;
+          list = f ∙ b .list;
+          index = g ∙ b .index;
+          held = held-then;
+          long = h ∙ b .long;
+          room = k ∙ b .room;
         }
 
     -- and fewer stages are left
     pub rank-next : 0 < w → rank a′ < rank a
     rank-next h =
         let some : 0 < wanted a = omega (arith, b .want) in
-        omega (arith, ap rank (p .advanced .replied .reply .awaited), rank-falls a (take (p .got) input′) (b .ready) some)
+        omega (arith, ap rank (p .advanced .replied .reply .awaited), rank-falls a (take (p .got) input′) (b .readable) some)
 
     -- a piece is one reply more
     pub one-more : {a₀ : Awaited} → Replies a₀ a → Replies a₀ a′

@@ -11,39 +11,47 @@ fn read_and_reply(
     stage: Stage,
     want: usize,
     list: &mut [u16],
+    index: &mut [u16],
     input: &mut [u8],
     out: &mut [u8],
 ) -> Next
-    requires { ⌜ PieceLent (awaitedOf stage (now list)) want (now list) (now input) (now out) ⌝ }
-    ensures { λ r. ⌜ Piece (awaitedOf stage (now (list .entry))) (now (list .entry)) (now (list .exit)) (now (input .entry)) (now (input .exit)) (awaitedOf (r .stage) (now (list .exit))) (r .want) (r .end) (now (out .entry)) (now (out .exit)) ⌝ }
+    requires { ⌜ PieceLent (awaitedOf stage (now list)) want (now list) (now index) (now input) (now out) ⌝ }
+    ensures { λ r. ⌜ Piece (awaitedOf stage (now (list .entry))) (now (list .entry)) (now (list .exit)) (now (index .entry)) (now (index .exit)) (now (input .entry)) (now (input .exit)) (awaitedOf (r .stage) (now (list .exit))) (r .want) (r .end) (now (out .entry)) (now (out .exit)) ⌝ }
 {
     let got = program_io::read(input, want);
-    let next = program_ends::reply_to(stage, list, input, got, out);
+    let next = program_ends::reply_to(stage, list, index, input, got, out);
     program_io::print(out, next.end);
     next
 }
 
 // Reads and prints until nothing more is wanted, and answers with the stage that is reached.
-fn until_done(first: Next, list: &mut [u16], input: &mut [u8], out: &mut [u8]) -> Stage
-    requires { ⌜ PieceLent (awaitedOf (first .stage) (now list)) (first .want) (now list) (now input) (now out) ⌝ }
+fn until_done(
+    first: Next,
+    list: &mut [u16],
+    index: &mut [u16],
+    input: &mut [u8],
+    out: &mut [u8],
+) -> Stage
+    requires { ⌜ PieceLent (awaitedOf (first .stage) (now list)) (first .want) (now list) (now index) (now input) (now out) ⌝ }
     ensures { λ r. ⌜ RunDone (awaitedOf (first .stage) (now (list .entry))) (awaitedOf r (now (list .exit))) ⌝ }
 {
     let mut stage = first.stage;
     let mut want = first.want;
     while 0 < want {
-        let next = read_and_reply(stage, want, list, input, out);
+        let next = read_and_reply(stage, want, list, index, input, out);
         stage = next.stage;
         want = next.want;
     }
     stage
 }
 
-// The program.
+// The program. The index has at most 1,024 starting places and 32,736 row numbers.
 pub fn run() {
     let mut list = [0u16; 32736];
+    let mut index = [0u16; 33760];
     let mut input = io::large_buffer();
     let mut out = io::large_buffer();
     let first = program_ends::first(&mut out);
     program_io::print(&out, first.end);
-    until_done(first, &mut list, &mut input, &mut out);
+    until_done(first, &mut list, &mut index, &mut input, &mut out);
 }

@@ -5,11 +5,12 @@ use answers::Refusal;
 use matrix_check::Shape;
 use quantiser::Setting;
 use quantiser_levels::Cell;
+ghost use mathlib.Core.Path.{_≡_};
 ghost use Rattle.answers.specs.Paper.Enums.{saidOf};
 ghost use Rattle.matrix.specs.Paper.Shapes.{matrixOf};
 ghost use Rattle.quantiser_settings.specs.Paper.Settings.{settingOf};
 ghost use Rattle.program_numerals.specs.Texts.{PutWithin};
-ghost use Rattle.matrix_index.specs.Index.{Indexed};
+ghost use Rattle.matrix_index.specs.Paper.Index.{indexOf};
 ghost use Rattle.program_block.specs.Loans.{Whole, BlockAnswered, Printable};
 ghost use Rattle.program_block.specs.Paper.Block.{blockLine};
 
@@ -22,7 +23,7 @@ pub fn decode(
     bytes: &[u8],
     word: &mut [u8],
 ) -> Answer
-    requires { ⌜ Whole (matrixOf shape (now list)) (settingOf setting) (now bytes) (now word) × Indexed (matrixOf shape (now list)) (now index) ⌝ }
+    requires { ⌜ Whole (matrixOf shape (now list)) (settingOf setting) (now bytes) (now word) × (now index ≡ indexOf (matrixOf shape (now list))) ⌝ }
     ensures { λ r. ⌜ BlockAnswered (matrixOf shape (now (list .entry))) (settingOf setting) (now (bytes .entry)) (saidOf r) (now (word .entry)) (now (word .exit)) ⌝ }
 {
     let n = shape.n as usize;
@@ -55,7 +56,7 @@ pub fn block(
     out: &mut [u8],
     at: usize,
 ) -> usize
-    requires { ⌜ Printable (matrixOf shape (now list)) (settingOf setting) (now bytes) at (now out) × Indexed (matrixOf shape (now list)) (now index) ⌝ }
+    requires { ⌜ Printable (matrixOf shape (now list)) (settingOf setting) (now bytes) at (now out) × (now index ≡ indexOf (matrixOf shape (now list))) ⌝ }
     ensures { λ r. ⌜ PutWithin 289 (blockLine (matrixOf shape (now (list .entry))) (settingOf setting) number (now (bytes .entry))) at (now (out .entry)) (now (out .exit)) r ⌝ }
 {
     let n = shape.n as usize;

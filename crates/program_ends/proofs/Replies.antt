@@ -11,7 +11,9 @@
 --   reply                                   == a reply by its text and what is awaited next
 --   blocks-last, blocks-more                == what is awaited after blocks
 --   entries-front                           == the list at the front of the array
+--   index-front                             == the index at the front of its array
 --   opened-reply                            == a run that begins, by what was found
+--   opened-index                            == and the array of the index
 --   asked-at, replied-at                    == a stage by its case
 --   countable                               == the blocks that came may be printed
 -- Assumes nothing.
@@ -28,6 +30,7 @@ use Rattle.counting.proofs.Writes.{take-over, length-listed}
 use Rattle.byte_numbers.specs.Paper.Numbers.{entryIn, entriesIn}
 use Rattle.matrix.specs.Paper.Code.{Matrix}
 use Rattle.matrix.specs.Paper.Check.{sizesFit}
+use Rattle.matrix_index.specs.Paper.Index.{indexOf, indexSize}
 use Rattle.quantiser_levels.specs.Paper.Samples.{Setting}
 use Rattle.program_numerals.specs.Texts.{PutWithin}
 use Rattle.program_numerals.proofs.Puts.{put-front, put-length, put-rest}
@@ -39,7 +42,7 @@ use Rattle.program_lines.specs.Loans.{Countable}
 use Rattle.program_turns.specs.Turns.{atOnce, bytesAtOnce, AtOnce}
 use Rattle.program_ends.specs.Stages.{Awaited, theList, theSetting, blocksFrom, withList, Reply, ends, goesOn, openedReply, sizesReply}
 use Rattle.program_ends.specs.Stages.{listReply, settingReply, blocksReply, replyTo}
-use Rattle.program_ends.specs.Replies.{awaitedOf, Asked, Replied, RepliedOver, listAfter, Advanced}
+use Rattle.program_ends.specs.Replies.{awaitedOf, Asked, Replied, RepliedOver, listAfter, indexOpened, indexAfter, Advanced}
 use Rattle.program_ends.specs.declared.Stage.{Stage}
 
 -- ---- the text of a reply
@@ -137,9 +140,20 @@ entries-front k bs old e h =
     let long : length (entriesIn bs) ≡ k = length-listed (length bs / 2) (entryIn bs) ∙ half in
     ap (take k) e ∙ ap (λ (x : ℕ). take x (over (entriesIn bs) old)) (sym long) ∙ take-over (entriesIn bs) old
 
+-- the index at the front of its array
+pub index-front : (H : Matrix) (x : List ℕ) → take (indexSize H) x ≡ indexOf H → take (H .n + 1 + H .m * H .rho) x ≡ indexOf H
+unfolding indexSize
+index-front H x h =
+    let size : H .n + 1 + H .m * H .rho ≡ suc (H .n) + H .m * H .rho = omega arith in
+    ap (λ (k : ℕ). take k x) size ∙ h
+
 -- a run that begins, by what was found
 pub opened-reply : (H : Matrix) {o p : Opening} → o ≡ p → {q : Opening} → o ≡ q → openedReply q H ≡ openedReply p H
 opened-reply H e q = ap (λ (x : Opening). openedReply x H) (sym q ∙ e)
+
+-- and the array of the index
+pub opened-index : (H : Matrix) (bs x : List ℕ) {t : Reply} → t ≡ settingReply H bs → indexOpened (t .awaited) x ≡ indexAfter (theSetting H) bs x
+opened-index H bs x e = ap (λ (r : Reply). indexOpened (r .awaited) x) e
 
 -- the blocks that came may be printed
 pub countable : (H : Matrix) (S : Setting) {i k : ℕ} {bs out : List ℕ} → Decodable H S → AtOnce (H .n) i k → length bs ≤ k * (4 * H .n)
@@ -151,11 +165,11 @@ countable H S {i} {k} {bs} d o h e =
 
 -- ---- a stage by its case
 
-module _ {s t : Stage} (e : s ≡ t) (l bs : List ℕ) {out : List ℕ} where
+module _ {s t : Stage} (e : s ≡ t) (l x bs : List ℕ) {out : List ℕ} where
   -- a stage by its case
-  pub asked-at : Asked (awaitedOf s l) l bs out → Asked (awaitedOf t l) l bs out
+  pub asked-at : Asked (awaitedOf s l) l x bs out → Asked (awaitedOf t l) l x bs out
   asked-at p = rw e at p
 
-  pub replied-at : {l′ out′ : List ℕ} {a : Awaited} {w x : ℕ} → RepliedOver (replyTo (awaitedOf t l) bs) a w x out out′ → l′ ≡ listAfter (awaitedOf t l) bs l
-      → Advanced (awaitedOf s l) bs l l′ a w x out out′
-  replied-at p q = rw e (record { replied = p; list = q })
+  pub replied-at : {l′ x′ out′ : List ℕ} {a : Awaited} {w k : ℕ} → RepliedOver (replyTo (awaitedOf t l) bs) a w k out out′
+      → l′ ≡ listAfter (awaitedOf t l) bs l → x′ ≡ indexAfter (awaitedOf t l) bs x → Advanced (awaitedOf s l) bs l l′ x x′ a w k out out′
+  replied-at p q h = rw e (record { replied = p; list = q; index = h })

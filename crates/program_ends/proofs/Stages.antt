@@ -1,19 +1,24 @@
 -- Laws of the stages: each leads to one that can be read, and the run comes to its end.
---   wanted-fits   == what is wanted fits the input buffer
---   ready-next    == what is awaited next can be read
---   rank          == a bound on the stages that are left
---   rank-falls    == it falls with each stage
+--   wanted-fits     == what is wanted fits the input buffer
+--   readable-next   == what is awaited next can be read
+--   held-next       == and its index is held
+--   rank            == a bound on the stages that are left
+--   rank-falls      == it falls with each stage
 -- Assumes nothing.
-use mathlib.Core.Path.{_≡_, refl, ap}
+use mathlib.Core.Path.{_≡_, refl, sym, ap, _∙_}
 use mathlib.Core.Bool.{Bool, true, false, cond}
 use mathlib.Core.List.{List, []}
 use Prim.Native.Nat.{ℕ, _*_, _-_, _≤_, _<_}
 use native.Mathlib.Decide.{decLt}
 use native.Mathlib.Omega.{arith}
 use lib.Dec.{ltb}
-use lib.ListN.{length}
+use lib.ListN.{length, take}
+use Rattle.counting.specs.Paper.Lists.{over}
+use Rattle.counting.proofs.Writes.{take-over}
 use Rattle.matrix.specs.Paper.Code.{Matrix}
 use Rattle.matrix.specs.Paper.Check.{sizesFit}
+use Rattle.matrix_index.specs.Paper.Index.{indexOf}
+use Rattle.matrix_index.proofs.Parts.{index-long}
 use Rattle.quantiser_levels.specs.Paper.Samples.{Setting}
 use Rattle.program_input.specs.Paper.Input.{matrixIn, settingIn}
 use Rattle.program_input.specs.Paper.Opening.{Opening, refusedBy, openWith, opening, openingVerdict}
@@ -22,15 +27,15 @@ use Rattle.program_turns.specs.Turns.{atOnce, bytesAtOnce, AtOnce}
 use Rattle.program_turns.proofs.Turns.{many}
 use Rattle.program_ends.specs.Stages.{Awaited, theSizes, theList, theSetting, blocksFrom, nothing, wanted, Reply, openedReply, sizesReply}
 use Rattle.program_ends.specs.Stages.{listReply, settingReply, blocksReply, replyTo}
-use Rattle.program_ends.specs.Replies.{Ready}
+use Rattle.program_ends.specs.Replies.{Readable, IndexHeld, indexOpened, indexAfter}
 
 -- ---- the blocks that are read at once, of an accepted matrix
 
-some-blocks : (H : Matrix) (S : Setting) (i : ℕ) → Ready (blocksFrom H S i) → AtOnce (H .n) i (atOnce (H .n) i)
+some-blocks : (H : Matrix) (S : Setting) (i : ℕ) → Readable (blocksFrom H S i) → AtOnce (H .n) i (atOnce (H .n) i)
 some-blocks H S i r = many (H .n) i (r .0 .matrix .sizes .n-least) (r .0 .matrix .sizes .n-most) (r .1)
 
 -- blocks are wanted before the 65,535th alone
-blocks-left : (H : Matrix) (S : Setting) (i : ℕ) → Ready (blocksFrom H S i) → 0 < bytesAtOnce (H .n) i → i < 65535
+blocks-left : (H : Matrix) (S : Setting) (i : ℕ) → Readable (blocksFrom H S i) → 0 < bytesAtOnce (H .n) i → i < 65535
 blocks-left H S i r h =
     elim (decLt i 65535) [
       | yes l ↦ l
@@ -40,7 +45,7 @@ blocks-left H S i r h =
     ]
 
 -- what is wanted fits the input buffer
-pub wanted-fits : (a : Awaited) → Ready a → wanted a ≤ 65472
+pub wanted-fits : (a : Awaited) → Readable a → wanted a ≤ 65472
 wanted-fits theSizes r = omega arith
 wanted-fits (theList H) r = omega (arith, few H r)
 wanted-fits (theSetting H) r = omega arith
@@ -53,23 +58,46 @@ by-test : {A : Type 0} (P : A → Type 0) (b : Bool) {x y : A} → (b ≡ true �
 by-test P true f g = f refl
 by-test P false f g = g refl
 
-opened-ready : (H : Matrix) (S : Setting) (o : Opening) → o ≡ opening (openingVerdict H S) S → Ready (openedReply o H .awaited)
-opened-ready H S (refusedBy k x) e = tt
-opened-ready H S (openWith T) e = (decodable H S T e refl, omega arith)
+opened-readable : (H : Matrix) (S : Setting) (o : Opening) → o ≡ opening (openingVerdict H S) S → Readable (openedReply o H .awaited)
+opened-readable H S (refusedBy k x) e = tt
+opened-readable H S (openWith T) e = (decodable H S T e refl, omega arith)
 
-abbrev ReadyNext : Reply → Type 0
-ReadyNext t = Ready (t .awaited)
+abbrev ReadableNext : Reply → Type 0
+ReadableNext t = Readable (t .awaited)
 
 -- what is awaited next can be read
-pub ready-next : (a : Awaited) (bs : List ℕ) → Ready a → Ready (replyTo a bs .awaited)
+pub readable-next : (a : Awaited) (bs : List ℕ) → Readable a → Readable (replyTo a bs .awaited)
 unfolding sizesReply listReply settingReply blocksReply
-ready-next theSizes bs r =
-    by-test ReadyNext (ltb (length bs) 8) (λ _. tt) (λ _. by-test ReadyNext (sizesFit (matrixIn bs [])) (λ e. e) (λ _. tt))
-ready-next (theList H) bs r = by-test ReadyNext (ltb (length bs) (2 * (H .m * H .rho))) (λ _. tt) (λ _. few H r)
-ready-next (theSetting H) bs r = by-test ReadyNext (ltb (length bs) 7) (λ _. tt) (λ _. opened-ready H (settingIn bs) _ refl)
-ready-next (blocksFrom H S i) bs r =
-    by-test Ready (ltb (length bs) (bytesAtOnce (H .n) i)) (λ _. tt) (λ _. (r .0, some-blocks H S i r .numbers))
-ready-next nothing bs r = tt
+readable-next theSizes bs r =
+    by-test ReadableNext (ltb (length bs) 8) (λ _. tt) (λ _. by-test ReadableNext (sizesFit (matrixIn bs [])) (λ e. e) (λ _. tt))
+readable-next (theList H) bs r = by-test ReadableNext (ltb (length bs) (2 * (H .m * H .rho))) (λ _. tt) (λ _. few H r)
+readable-next (theSetting H) bs r = by-test ReadableNext (ltb (length bs) 7) (λ _. tt) (λ _. opened-readable H (settingIn bs) _ refl)
+readable-next (blocksFrom H S i) bs r =
+    by-test Readable (ltb (length bs) (bytesAtOnce (H .n) i)) (λ _. tt) (λ _. (r .0, some-blocks H S i r .numbers))
+readable-next nothing bs r = tt
+
+-- ---- the index that it needs
+
+-- the index that is written where the run opens is held
+held-opened : (a : Awaited) (x : List ℕ) → Readable a → IndexHeld a (indexOpened a x)
+held-opened theSizes x r = tt
+held-opened (theList H) x r = tt
+held-opened (theSetting H) x r = tt
+held-opened (blocksFrom H S i) x r =
+    ap (λ (k : ℕ). take k (over (indexOf H) x)) (sym (index-long H (r .0 .matrix .rows))) ∙ take-over (indexOf H) x
+held-opened nothing x r = tt
+
+-- what is awaited next has its index held
+pub held-next : (a : Awaited) (bs x : List ℕ) → Readable a → IndexHeld a x → IndexHeld (replyTo a bs .awaited) (indexAfter a bs x)
+unfolding sizesReply listReply blocksReply
+held-next theSizes bs x r h =
+    by-test (λ (t : Reply). IndexHeld (t .awaited) x) (ltb (length bs) 8) (λ _. tt)
+    (λ _. by-test (λ (t : Reply). IndexHeld (t .awaited) x) (sizesFit (matrixIn bs [])) (λ _. tt) (λ _. tt))
+held-next (theList H) bs x r h =
+    by-test (λ (t : Reply). IndexHeld (t .awaited) x) (ltb (length bs) (2 * (H .m * H .rho))) (λ _. tt) (λ _. tt)
+held-next (theSetting H) bs x r h = held-opened (settingReply H bs .awaited) x (readable-next (theSetting H) bs r)
+held-next (blocksFrom H S i) bs x r h = by-test (λ (a : Awaited). IndexHeld a x) (ltb (length bs) (bytesAtOnce (H .n) i)) (λ _. tt) (λ _. h)
+held-next nothing bs x r h = tt
 
 -- ---- the run comes to its end
 
@@ -89,7 +117,7 @@ abbrev Lower : ℕ → Reply → Type 0
 Lower k t = rank (t .awaited) < k
 
 -- it falls with each stage
-pub rank-falls : (a : Awaited) (bs : List ℕ) → Ready a → 0 < wanted a → rank (replyTo a bs .awaited) < rank a
+pub rank-falls : (a : Awaited) (bs : List ℕ) → Readable a → 0 < wanted a → rank (replyTo a bs .awaited) < rank a
 unfolding sizesReply listReply settingReply blocksReply
 rank-falls theSizes bs r h =
     by-test (Lower 65538) (ltb (length bs) 8) (λ _. omega arith)

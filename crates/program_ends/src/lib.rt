@@ -1,5 +1,5 @@
 // The stages of the run, as functions on slices: what the bytes that came say, what is awaited then, and how the run ends.
-// Rests on `program_turns`, `program_lines`, `program_input`, `byte_numbers` and `program_text`. Nothing here reads or writes.
+// Rests on `program_turns`, `program_lines`, `program_input`, `matrix_index`, `byte_numbers` and `program_text`. Nothing here reads or writes.
 // Document 01: "Worked by hand", the paragraph on the program.
 use answers::Refusal;
 use matrix_check::Shape;
@@ -7,13 +7,15 @@ use program_input::Opened;
 use quantiser::Setting;
 ghost use Prim.Native.Nat.{ℕ, _*_, _≤_};
 ghost use mathlib.Core.Path.{_≡_};
+ghost use mathlib.Core.Bool.{true};
 ghost use mathlib.Core.List.{List, []};
 ghost use lib.ListN.{length, take};
 ghost use Rattle.matrix.specs.Paper.Shapes.{matrixOf};
 ghost use Rattle.quantiser_settings.specs.Paper.Settings.{settingOf};
-ghost use Rattle.program_ends.specs.Stages.{theList, theSetting, blocksFrom, firstReply, ends, sizesReply, settingReply, blocksReply};
+ghost use Rattle.matrix.specs.Paper.Check.{sizesFit};
+ghost use Rattle.program_ends.specs.Stages.{theList, theSetting, blocksFrom, firstReply, ends, sizesReply, listReply, settingReply, blocksReply};
 ghost use Rattle.program_turns.specs.Turns.{bytesAtOnce};
-ghost use Rattle.program_ends.specs.Replies.{awaitedOf, Asked, Replied, RepliedOver, Advanced};
+ghost use Rattle.program_ends.specs.Replies.{awaitedOf, Asked, Replied, RepliedOver, listAfter, indexAfter, Advanced};
 
 // What the run awaits: with the sizes that it has, the setting, and the number of the next block.
 pub enum Stage {
@@ -53,7 +55,7 @@ pub fn first(out: &mut [u8]) -> Next
 }
 
 // The run ends with the text that stands before `end`.
-fn ended(out: &[u8], end: usize) -> Next
+fn run_over(out: &[u8], end: usize) -> Next
     requires { ⌜ end ≤ length (now out) ⌝ }
     ensures { λ r. ⌜ ((l : List ℕ) → Replied (ends (take end (now (out .entry)))) (awaitedOf (r .stage) l) (r .want) (r .end) (now (out .entry))) × (r .end ≡ end) ⌝ }
 {
@@ -85,12 +87,12 @@ fn after_sizes(bytes: &[u8], out: &mut [u8]) -> Next
 {
     if bytes.len() < 8 {
         let end = program_text::put_short(out, 0);
-        return ended(out, end);
+        return run_over(out, end);
     }
     let shape = program_input::sizes(bytes);
     if program_input::sizes_refused(shape) {
         let end = program_text::put_refused(out, 0, Refusal::Sizes);
-        return ended(out, end);
+        return run_over(out, end);
     }
     let want = 2 * entries(shape);
     Next {
@@ -102,13 +104,13 @@ fn after_sizes(bytes: &[u8], out: &mut [u8]) -> Next
 
 // The list came, or the input ended.
 fn after_list(shape: Shape, list: &mut [u16], bytes: &[u8], out: &mut [u8]) -> Next
-    requires { ⌜ Asked (theList (matrixOf shape [])) (now list) (now bytes) (now out) ⌝ }
-    ensures { λ r. ⌜ Advanced (theList (matrixOf shape [])) (now (bytes .entry)) (now (list .entry)) (now (list .exit)) (awaitedOf (r .stage) (now (list .exit))) (r .want) (r .end) (now (out .entry)) (now (out .exit)) ⌝ }
+    requires { ⌜ (sizesFit (matrixOf shape []) ≡ true) × (length (now bytes) ≤ 2 * (shape .m * shape .rho)) × (length (now list) ≡ 32736) × (length (now out) ≡ 65536) ⌝ }
+    ensures { λ r. ⌜ RepliedOver (listReply (matrixOf shape []) (now (bytes .entry))) (awaitedOf (r .stage) (now (list .exit))) (r .want) (r .end) (now (out .entry)) (now (out .exit)) × (now (list .exit) ≡ listAfter (theList (matrixOf shape [])) (now (bytes .entry)) (now (list .entry))) ⌝ }
 {
     let want = 2 * entries(shape);
     if bytes.len() < want {
         let end = program_text::put_short(out, 0);
-        return ended(out, end);
+        return run_over(out, end);
     }
     byte_numbers::entries(bytes, list);
     Next {
@@ -118,22 +120,31 @@ fn after_list(shape: Shape, list: &mut [u16], bytes: &[u8], out: &mut [u8]) -> N
     }
 }
 
-// The setting came, or the input ended.
-fn after_setting(shape: Shape, list: &[u16], bytes: &[u8], out: &mut [u8]) -> Next
-    requires { ⌜ Asked (theSetting (matrixOf shape (take (shape .m * shape .rho) (now list)))) (now list) (now bytes) (now out) ⌝ }
-    ensures { λ r. ⌜ RepliedOver (settingReply (matrixOf shape (take (shape .m * shape .rho) (now (list .entry)))) (now (bytes .entry))) (awaitedOf (r .stage) (now (list .entry))) (r .want) (r .end) (now (out .entry)) (now (out .exit)) ⌝ }
+// The setting came, or the input ended. The index is built here, once for all blocks.
+fn after_setting(
+    shape: Shape,
+    list: &[u16],
+    index: &mut [u16],
+    bytes: &[u8],
+    out: &mut [u8],
+) -> Next
+    requires { ⌜ Asked (theSetting (matrixOf shape (take (shape .m * shape .rho) (now list)))) (now list) (now index) (now bytes) (now out) ⌝ }
+    ensures { λ r. ⌜ RepliedOver (settingReply (matrixOf shape (take (shape .m * shape .rho) (now (list .entry)))) (now (bytes .entry))) (awaitedOf (r .stage) (now (list .entry))) (r .want) (r .end) (now (out .entry)) (now (out .exit)) × (now (index .exit) ≡ indexAfter (theSetting (matrixOf shape (take (shape .m * shape .rho) (now (list .entry))))) (now (bytes .entry)) (now (index .entry))) ⌝ }
 {
     if bytes.len() < 7 {
         let end = program_text::put_short(out, 0);
-        return ended(out, end);
+        return run_over(out, end);
     }
     let count = entries(shape);
     let opened = program_input::begin(shape, &list[..count], bytes);
     match opened {
-        Opened::Ready(setting) => at_blocks(shape, setting, 0, 0),
+        Opened::Ready(setting) => {
+            matrix_index::build(shape, &list[..count], index);
+            at_blocks(shape, setting, 0, 0)
+        }
         Opened::Refused(f) => {
             let end = program_text::put_refused(out, 0, f);
-            ended(out, end)
+            run_over(out, end)
         }
     }
 }
@@ -142,45 +153,63 @@ fn after_setting(shape: Shape, list: &[u16], bytes: &[u8], out: &mut [u8]) -> Ne
 fn after_blocks(
     shape: Shape,
     list: &[u16],
+    index: &[u16],
     setting: Setting,
     number: u16,
     bytes: &[u8],
     out: &mut [u8],
 ) -> Next
-    requires { ⌜ Asked (blocksFrom (matrixOf shape (take (shape .m * shape .rho) (now list))) (settingOf setting) number) (now list) (now bytes) (now out) ⌝ }
+    requires { ⌜ Asked (blocksFrom (matrixOf shape (take (shape .m * shape .rho) (now list))) (settingOf setting) number) (now list) (now index) (now bytes) (now out) ⌝ }
     ensures { λ r. ⌜ RepliedOver (blocksReply (matrixOf shape (take (shape .m * shape .rho) (now (list .entry)))) (settingOf setting) number (now (bytes .entry))) (awaitedOf (r .stage) (now (list .entry))) (r .want) (r .end) (now (out .entry)) (now (out .exit)) ⌝ }
 {
     let n = shape.n as usize;
     let some = program_turns::at_once(n, number);
     let want = some * (4 * n);
     let count = entries(shape);
-    let end = program_lines::chunk(shape, &list[..count], setting, number, bytes, out, 0);
+    let size = n + 1 + count;
+    let end = program_lines::chunk(
+        shape,
+        &list[..count],
+        &index[..size],
+        setting,
+        number,
+        bytes,
+        out,
+        0,
+    );
     if bytes.len() < want {
-        return ended(out, end);
+        return run_over(out, end);
     }
     at_blocks(shape, setting, number + some as u16, end)
 }
 
 // The bytes came that a stage awaits, or fewer where the input ended.
-fn advance(stage: Stage, list: &mut [u16], bytes: &[u8], out: &mut [u8]) -> Next
-    requires { ⌜ Asked (awaitedOf stage (now list)) (now list) (now bytes) (now out) ⌝ }
-    ensures { λ r. ⌜ Advanced (awaitedOf stage (now (list .entry))) (now (bytes .entry)) (now (list .entry)) (now (list .exit)) (awaitedOf (r .stage) (now (list .exit))) (r .want) (r .end) (now (out .entry)) (now (out .exit)) ⌝ }
+fn advance(stage: Stage, list: &mut [u16], index: &mut [u16], bytes: &[u8], out: &mut [u8]) -> Next
+    requires { ⌜ Asked (awaitedOf stage (now list)) (now list) (now index) (now bytes) (now out) ⌝ }
+    ensures { λ r. ⌜ Advanced (awaitedOf stage (now (list .entry))) (now (bytes .entry)) (now (list .entry)) (now (list .exit)) (now (index .entry)) (now (index .exit)) (awaitedOf (r .stage) (now (list .exit))) (r .want) (r .end) (now (out .entry)) (now (out .exit)) ⌝ }
 {
     match stage {
         Stage::AtSizes => after_sizes(bytes, out),
         Stage::AtList(shape) => after_list(shape, list, bytes, out),
-        Stage::AtSetting(shape) => after_setting(shape, list, bytes, out),
+        Stage::AtSetting(shape) => after_setting(shape, list, index, bytes, out),
         Stage::AtBlocks(shape, setting, number) => {
-            after_blocks(shape, list, setting, number, bytes, out)
+            after_blocks(shape, list, index, setting, number, bytes, out)
         }
-        Stage::AtEnd => ended(out, 0),
+        Stage::AtEnd => run_over(out, 0),
     }
 }
 
 // The same for bytes at the front of a buffer, of which `got` came. Only this repository's crates call it.
-pub fn reply_to(stage: Stage, list: &mut [u16], input: &[u8], got: usize, out: &mut [u8]) -> Next
-    requires { ⌜ (got ≤ length (now input)) × Asked (awaitedOf stage (now list)) (now list) (take got (now input)) (now out) ⌝ }
-    ensures { λ r. ⌜ Advanced (awaitedOf stage (now (list .entry))) (take got (now (input .entry))) (now (list .entry)) (now (list .exit)) (awaitedOf (r .stage) (now (list .exit))) (r .want) (r .end) (now (out .entry)) (now (out .exit)) ⌝ }
+pub fn reply_to(
+    stage: Stage,
+    list: &mut [u16],
+    index: &mut [u16],
+    input: &[u8],
+    got: usize,
+    out: &mut [u8],
+) -> Next
+    requires { ⌜ (got ≤ length (now input)) × Asked (awaitedOf stage (now list)) (now list) (now index) (take got (now input)) (now out) ⌝ }
+    ensures { λ r. ⌜ Advanced (awaitedOf stage (now (list .entry))) (take got (now (input .entry))) (now (list .entry)) (now (list .exit)) (now (index .entry)) (now (index .exit)) (awaitedOf (r .stage) (now (list .exit))) (r .want) (r .end) (now (out .entry)) (now (out .exit)) ⌝ }
 {
-    advance(stage, list, &input[..got], out)
+    advance(stage, list, index, &input[..got], out)
 }

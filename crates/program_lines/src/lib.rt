@@ -1,13 +1,14 @@
 // The lines of blocks of samples, as functions on slices: line after line, and `short` at an end inside a block.
-// Rests on `program_block`, `matrix_index` and `program_text`. Document 01: "Worked by hand", the paragraph on the program.
+// Rests on `program_block` and `program_text`; the index is lent. Document 01: "Worked by hand", the paragraph on the program.
 use matrix_check::Shape;
 use program_block::block;
 use quantiser::Setting;
+ghost use mathlib.Core.Path.{_≡_};
 ghost use Prim.Native.Nat.{_+_, _*_};
 ghost use Rattle.matrix.specs.Paper.Shapes.{matrixOf};
 ghost use Rattle.quantiser_settings.specs.Paper.Settings.{settingOf};
 ghost use Rattle.program_numerals.specs.Texts.{PutWithin};
-ghost use Rattle.matrix_index.specs.Index.{Indexed};
+ghost use Rattle.matrix_index.specs.Paper.Index.{indexOf};
 ghost use Rattle.program_lines.specs.Loans.{Countable};
 ghost use Rattle.program_lines.specs.Paper.Blocks.{blocksIn, blockLines, chunkText};
 
@@ -22,7 +23,7 @@ fn lines(
     out: &mut [u8],
     at: usize,
 ) -> usize
-    requires { ⌜ Countable (matrixOf shape (now list)) (settingOf setting) number (now bytes) at (now out) × Indexed (matrixOf shape (now list)) (now index) ⌝ }
+    requires { ⌜ Countable (matrixOf shape (now list)) (settingOf setting) number (now bytes) at (now out) × (now index ≡ indexOf (matrixOf shape (now list))) ⌝ }
     ensures { λ r. ⌜ PutWithin (289 * blocksIn (matrixOf shape (now (list .entry))) (now (bytes .entry))) (blockLines (matrixOf shape (now (list .entry))) (settingOf setting) number (blocksIn (matrixOf shape (now (list .entry))) (now (bytes .entry))) (now (bytes .entry))) at (now (out .entry)) (now (out .exit)) r ⌝ }
 {
     let size = 4 * (shape.n as usize);
@@ -47,40 +48,23 @@ fn lines(
     end
 }
 
-// The same, with an index made once for all these blocks.
-fn all_lines(
-    shape: Shape,
-    list: &[u16],
-    setting: Setting,
-    number: u16,
-    bytes: &[u8],
-    out: &mut [u8],
-    at: usize,
-) -> usize
-    requires { ⌜ Countable (matrixOf shape (now list)) (settingOf setting) number (now bytes) at (now out) ⌝ }
-    ensures { λ r. ⌜ PutWithin (289 * blocksIn (matrixOf shape (now (list .entry))) (now (bytes .entry))) (blockLines (matrixOf shape (now (list .entry))) (settingOf setting) number (blocksIn (matrixOf shape (now (list .entry))) (now (bytes .entry))) (now (bytes .entry))) at (now (out .entry)) (now (out .exit)) r ⌝ }
-{
-    let mut index = [0u16; 32736];
-    matrix_index::build(shape, list, &mut index);
-    lines(shape, list, &index, setting, number, bytes, out, at)
-}
-
 // The lines of the blocks, and `short` where the bytes end inside a block.
-// Only this repository's crates call it, after asking refusals 1 to 6.
+// Only this repository's crates call it, after asking refusals 1 to 6, with the index of the matrix.
 pub fn chunk(
     shape: Shape,
     list: &[u16],
+    index: &[u16],
     setting: Setting,
     number: u16,
     bytes: &[u8],
     out: &mut [u8],
     at: usize,
 ) -> usize
-    requires { ⌜ Countable (matrixOf shape (now list)) (settingOf setting) number (now bytes) at (now out) ⌝ }
+    requires { ⌜ Countable (matrixOf shape (now list)) (settingOf setting) number (now bytes) at (now out) × (now index ≡ indexOf (matrixOf shape (now list))) ⌝ }
     ensures { λ r. ⌜ PutWithin (289 * blocksIn (matrixOf shape (now (list .entry))) (now (bytes .entry)) + 6) (chunkText (matrixOf shape (now (list .entry))) (settingOf setting) number (now (bytes .entry))) at (now (out .entry)) (now (out .exit)) r ⌝ }
 {
     let size = 4 * (shape.n as usize);
-    let end = all_lines(shape, list, setting, number, bytes, out, at);
+    let end = lines(shape, list, index, setting, number, bytes, out, at);
     if bytes.len() % size == 0 {
         return end;
     }

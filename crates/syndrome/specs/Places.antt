@@ -15,10 +15,10 @@ use lib.ListN.{length, set}
 use Rattle.counting.specs.Paper.Sum.{sumBelow, same}
 use Rattle.counting.specs.Places.{at}
 
--- a part of the list, within the largest list there is
+-- a part of a list of column numbers, or of an index: no longer than the largest index there is
 pub record Part (l : List ℕ) (from count : ℕ) : Type 0 where
   pub room : from + count ≤ length l
-  pub short : from + count ≤ 32736
+  pub short : from + count ≤ 33760
   pub below : (k : ℕ) → k < count → at l (from + k) < 1023
 
 -- bits at the column numbers of a part

@@ -5,6 +5,8 @@
 
 pub mod causes;
 mod guarded;
+#[cfg(feature = "index")]
+mod indexed;
 #[cfg(feature = "samples")]
 mod samples;
 #[cfg(feature = "session")]
@@ -12,6 +14,8 @@ mod session;
 mod subject;
 
 pub use guarded::{Cell, Guarded};
+#[cfg(feature = "index")]
+pub use indexed::Indexed;
 #[cfg(feature = "samples")]
 pub use samples::{bytes_for, quantise, quantise_exactly, Left};
 #[cfg(feature = "session")]

@@ -3,8 +3,8 @@ use std::fmt;
 
 /// The answer of an exported function: code + 2^32 × (rounds + 2^8 × (failing + 2^12 × changed)).
 ///
-/// The code is 0 for decoded, accepted, counted or quantised, 1 for failed, 2 for working, else
-/// the refusal's number × 65,536 + its place. A refusal has rounds, failing and changed 0.
+/// The code is 0 for decoded, accepted, counted, quantised or built, 1 for failed, 2 for working,
+/// else the refusal's number × 65,536 + its place. A refusal has rounds, failing and changed 0.
 #[derive(Clone, Copy, PartialEq, Eq)]
 pub struct Packed(pub u64);
 
@@ -15,7 +15,8 @@ impl Packed {
         Packed(code + (1 << 32) * (rounds + (1 << 8) * (failing + (1 << 12) * changed)))
     }
 
-    /// What the library is to answer where the reference checks a matrix or quantises.
+    /// What the library is to answer where the reference checks a matrix, quantises or builds an
+    /// index.
     pub fn of_check(answer: Result<(), Refusal>) -> Packed {
         answer.map_or_else(Packed::refused, |()| Packed::new(0, 0, 0, 0))
     }

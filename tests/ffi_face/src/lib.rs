@@ -2,16 +2,20 @@
 //!
 //! A slice crosses as two scalars, a pointer and the number of elements; a Rust slice in the
 //! declaration itself would be passed in another way. A later function is one declaration and
-//! one wrapper. The features `samples` and `session` declare the functions that start from
-//! samples, and the session's.
+//! one wrapper. The features `samples`, `session` and `index` declare the functions that start from
+//! samples, the session's, and those that build an index or are lent one.
 
 mod answer;
+#[cfg(feature = "index")]
+mod index;
 #[cfg(feature = "samples")]
 mod samples;
 #[cfg(feature = "session")]
 mod session;
 
 pub use answer::Packed;
+#[cfg(feature = "index")]
+pub use index::{index, iterative_indexed, one_step_indexed};
 use reference::Matrix;
 #[cfg(feature = "samples")]
 pub use samples::{iterative, quantise};

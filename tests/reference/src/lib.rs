@@ -1,6 +1,6 @@
-//! The literal decoder of document 01, a second opinion for the tests.
+//! The literal decoder of document 01 and of card 1 of document 02, a second opinion for the tests.
 //!
-//! Each function is one passage of the document, done the slow way it is said: all rows are
+//! Each function is one passage of a document, done the slow way it is said: all rows are
 //! searched for a bit's checks, all pairs of rows are compared, words are lists of bits. The
 //! passage stands in quotation marks above it.
 
@@ -8,6 +8,7 @@
 #![allow(clippy::manual_div_ceil, clippy::manual_is_multiple_of)]
 
 mod answer;
+mod index;
 mod iterative;
 mod matrix;
 mod one_step;
@@ -19,6 +20,7 @@ mod whole;
 mod word;
 
 pub use answer::{Answer, Outcome};
+pub use index::{index, index_of, iterative_indexed, one_step_indexed, trust_index, write_index};
 pub use iterative::{iterative, iterative_accepted};
 pub use matrix::{check, Matrix};
 pub use one_step::{failing, failing_accepted, failing_checks, one_step, one_step_accepted};

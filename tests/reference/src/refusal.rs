@@ -1,4 +1,5 @@
-/// "Refused for the input": "Each has a place, 0 unless named."
+/// "Refused for the input": "Each has a place, 0 unless named." Document 02 adds 10, "an index that
+/// is not exactly the matrix's own or a buffer too short to build it in", whose place is 0.
 #[derive(Clone, Copy, Debug, PartialEq, Eq)]
 pub struct Refusal {
     pub number: u16,

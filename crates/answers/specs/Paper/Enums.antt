@@ -9,8 +9,8 @@ use Rattle.answers.specs.declared.Outcome.{Outcome}
 use Rattle.answers.specs.declared.Outcome.the-variants.{Decoded, Failed, Working}
 use Rattle.answers.specs.declared.Report.{Report}
 use Rattle.answers.specs.declared.Refusal.{Refusal}
-use Rattle.answers.specs.declared.Refusal.the-variants.{Sizes, Length, Entry, Weight, Overlap, Setting, Buffer, Sample, Spare, Record, Ended}
-use Rattle.answers.specs.declared.Refusal.the-variants.{OtherSizes, Beyond}
+use Rattle.answers.specs.declared.Refusal.the-variants.{Sizes, Length, Entry, Weight, Overlap, Setting, Buffer, Sample, Spare, Index, Record}
+use Rattle.answers.specs.declared.Refusal.the-variants.{Ended, OtherSizes, Beyond}
 use Rattle.answers.specs.declared.Answer.{Answer}
 use Rattle.answers.specs.declared.Answer.the-variants as answer
 use Rattle.answers.specs.declared.Checked.{Checked}
@@ -28,6 +28,7 @@ numberOf Setting = 6
 numberOf Buffer = 7
 numberOf (Sample j) = 8
 numberOf Spare = 9
+numberOf Index = 10
 numberOf Record = 20
 numberOf Ended = 21
 numberOf OtherSizes = 22
@@ -43,6 +44,7 @@ placeOf Setting = 0
 placeOf Buffer = 0
 placeOf (Sample j) = j
 placeOf Spare = 0
+placeOf Index = 0
 placeOf Record = 0
 placeOf Ended = 0
 placeOf OtherSizes = 0

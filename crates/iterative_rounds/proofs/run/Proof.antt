@@ -4,7 +4,7 @@ use mathlib.Core.Path.{_≡_}
 use Prim.Native.Nat.{_-_}
 use native.Mathlib.Omega.{arith}
 use Rattle.matrix.specs.Paper.Shapes.{matrixOf}
-use Rattle.iterative_tally.proofs.KeptParities.{zero-word, zero-parities}
+use Rattle.syndrome_update.proofs.KeptParities.{zero-word, zero-parities}
 use Rattle.iterative_rounds.proofs.Runs.{Going, going-starts, going-lent, going-ends, going-step}
 use Rattle.iterative_rounds.proofs.run.Statement.{statement}
 use Rattle.iterative_rounds.proofs.run.Tie as tie

@@ -1,60 +1,89 @@
--- `matrix_index::build`. The loop's invariant: the rows before row i stand at their columns, and nothing else is written.
+-- `matrix_index::build`. The loop's invariant: the rows before row i are written over the starting places, and the cursors stand behind them.
 use Prim.Native.Nat.{_-_, _≤_}
-use mathlib.Core.Path.{sym, _∙_}
+use mathlib.Core.Path.{_≡_, refl, sym, ap, _∙_}
 use native.Mathlib.Nat.{le-antisymm}
 use native.Mathlib.Omega.{arith}
-use lib.ListN.{replicate}
+use lib.ListN.{length, replicate, length-replicate}
+use Rattle.counting.specs.Paper.Lists.{listed, over}
 use Rattle.matrix.specs.Paper.Shapes.{matrixOf}
-use Rattle.matrix_index.specs.Index.{IndexFilled, UnfilledKept}
-use Rattle.matrix_index.proofs.Entries.{filled-none, filled-all, kept-none, kept-row}
+use Rattle.matrix_index.specs.Filling.{startBy, Cursors, rowsPut}
+use Rattle.matrix_index.proofs.Cursors.{cursors-none}
+use Rattle.matrix_index.proofs.Filling.{puts-none, puts-next, puts-room, rows-done, size-past}
 use Rattle.matrix_index.proofs.build.Statement.{statement}
 use Rattle.matrix_index.proofs.build.Tie as tie
 
 abbrev Inv-loop : tie.InvT-loop
-Inv-loop shape list index₀ m counts₀ i₀ index counts i =
-    (i ≤ m) × IndexFilled (matrixOf shape list) i 0 counts index × UnfilledKept (matrixOf shape list) counts index₀ index
+Inv-loop shape list index₀ n m gamma cursors₀ i₀ index cursors i =
+    (i ≤ m) × Cursors (matrixOf shape list) i 0 cursors × (index ≡ rowsPut (matrixOf shape list) i index₀)
 
 abbrev μ-loop : tie.MeasureT-loop
-μ-loop shape list index₀ m counts₀ i₀ index counts i = m - i
+μ-loop shape list index₀ n m gamma cursors₀ i₀ index cursors i = m - i
+
+cast-n : tie.Need-cast-n Inv-loop μ-loop
+cast-n c = omega (arith, c .before .before .before .pre .0 .sizes .n-most)
 
 cast-m : tie.Need-cast-m Inv-loop μ-loop
-cast-m c = omega (arith, c .before .before .before .pre .0 .sizes .m-most)
+cast-m c = omega (arith, c .before .before .before .before .pre .0 .sizes .m-most)
+
+cast-gamma : tie.Need-cast-gamma Inv-loop μ-loop
+cast-gamma c = omega (arith, c .before .before .before .before .before .pre .0 .sizes .gamma-most)
+
+slice-aggregate-put-starts : tie.Need-slice-aggregate-put-starts Inv-loop μ-loop
+slice-aggregate-put-starts c = refl
+
+put-starts-requires : tie.Need-put-starts-requires Inv-loop μ-loop
+put-starts-requires c κs =
+    let z = c .before .before .before .before .before .before .pre .0 .sizes in
+    (omega (arith, z .n-most), z .gamma-most, z .n-most)
+
+add-put-starts : tie.Need-add-put-starts Inv-loop μ-loop
+add-put-starts c = omega (arith, c .before .before .before .before .before .before .before .before .pre .0 .sizes .n-most)
+
+put-starts-requires-2 : tie.Need-put-starts-requires-2 Inv-loop μ-loop
+put-starts-requires-2 c κs =
+    let s = c .before .before .before .before .before .before .before .before .before in
+    (omega (arith, s .pre .0 .sizes .n-most), s .pre .0 .sizes .gamma-most, omega (arith, s .pre .1, size-past (matrixOf (s .args .shape) (s .args .list .now)) (s .pre .0)))
 
 loop-holds : tie.Need-loop-holds Inv-loop μ-loop
 loop-holds c =
-    let s = c .before .before .before in
-    let H = matrixOf (s .args .shape) (s .args .list .now) in
-    (omega arith, filled-none H (s .pre .0) (s .args .index .now) (s .pre .1), kept-none H (s .pre .0) (replicate 1023 0) (s .args .index .now))
+    let s = c .before .before .before .before .before .before .before .before .before .before .before .before in
+    (omega arith, cursors-none (matrixOf (s .args .shape) (s .args .list .now)) (s .pre .0) _ (c .before .before .before .before .before .put-starts .ensures), puts-none (matrixOf (s .args .shape) (s .args .list .now)) _)
 
 slice-aggregate-place-row : tie.Need-slice-aggregate-place-row Inv-loop μ-loop
-slice-aggregate-place-row c = sym (c .before .before .loop .inv .1 .long-counts)
+slice-aggregate-place-row c = sym (c .before .before .loop .inv .1 .long)
 
 place-row-requires : tie.Need-place-row-requires Inv-loop μ-loop
-place-row-requires c κs = let s = c .before .before .before .before .before .before .before in (s .pre .0, omega arith, c .before .before .before .loop .inv .1)
+place-row-requires c κs =
+    let s = c .before .before .before .before .before .before .before .before .before .before .before .before .before .before .before .before in
+    let l = c .before .before .before .loop in
+    (s .pre .0, omega arith, l .inv .1, omega (arith, s .pre .1, puts-room (matrixOf (s .args .shape) (s .args .list .now)) (s .pre .0) (s .args .index .now) (s .pre .1) (l .i) _ (l .index) (c .before .before .before .before .before .before .put-starts2 .ensures) (l .inv .2)))
 
 add-i : tie.Need-add-i Inv-loop μ-loop
-add-i c = omega (arith, c .before .before .before .before .before .before .before .before .before .before .before .pre .0 .sizes .m-most)
+add-i c = omega (arith, c .before .before .before .before .before .before .before .before .before .before .before .before .before .before .before .before .before .before .before .before .pre .0 .sizes .m-most)
 
 loop-less : tie.Need-loop-less Inv-loop μ-loop
 loop-less c = omega arith
 
 loop-again : tie.Need-loop-again Inv-loop μ-loop
 loop-again c =
-    let s = c .before .before .before .before .before .before .before .before .before .before .before in
-    let H = matrixOf (s .args .shape) (s .args .list .now) in
+    let s = c .before .before .before .before .before .before .before .before .before .before .before .before .before .before .before .before .before .before .before .before in
     let l = c .before .before .before .before .before .before .before .loop in
     let p = c .before .before .before .place-row .ensures in
-    (omega arith, p .filled, kept-row H (s .pre .0) (l .i) (l .counts) _ (s .args .index .now) (l .index) _ (l .inv .1) p (l .inv .2))
+    (omega arith, p .0 .cursors, puts-next (matrixOf (s .args .shape) (s .args .list .now)) (l .i) _ (l .index) _ (l .inv .2) (p .1))
 
 same-length : tie.Need-same-length Inv-loop μ-loop
-same-length c = c .before .loop .inv .1 .long ∙ sym (c .before .before .before .before .before .pre .1)
+same-length c =
+    let s = c .before .before .before .before .before .before .before .before .before .before .before .before .before .before in
+    let l = c .before .loop in
+    puts-room (matrixOf (s .args .shape) (s .args .list .now)) (s .pre .0) (s .args .index .now) (s .pre .1) (l .i) _ (l .index)
+    (c .before .before .before .before .put-starts2 .ensures) (l .inv .2)
 
 returns : tie.Need-returns Inv-loop μ-loop
 returns c =
-    let s = c .before .before .before .before .before in
+    let s = c .before .before .before .before .before .before .before .before .before .before .before .before .before .before in
     let l = c .before .loop in
-    filled-all (matrixOf (s .args .shape) (s .args .list .now)) (s .pre .0) (l .counts) (s .args .index .now) (l .index)
-    (rw (le-antisymm (l .inv .0) (omega arith)) at (l .inv .1)) (l .inv .2)
+    rows-done (matrixOf (s .args .shape) (s .args .list .now)) (s .pre .0) (s .args .index .now) (s .pre .1) _ (l .index)
+    (c .before .before .before .before .put-starts2 .ensures) (rw (le-antisymm (l .inv .0) (omega arith)) at (l .inv .2))
 
 pub build-spec : {M : Type 1} → statement M
 build-spec =
@@ -62,7 +91,13 @@ build-spec =
     (tie.spec
     Inv-loop
     μ-loop
+    cast-n
     cast-m
+    cast-gamma
+    slice-aggregate-put-starts
+    put-starts-requires
+    add-put-starts
+    put-starts-requires-2
     loop-holds
     slice-aggregate-place-row
     place-row-requires

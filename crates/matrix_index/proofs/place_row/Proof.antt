@@ -1,21 +1,23 @@
--- `matrix_index::place_row`. The loop's invariant: the first k entries of the row stand at their columns, and nothing else is written.
+-- `matrix_index::place_row`. The loop's invariant: the row is written at the places of its first `k` entries, whose cursors have moved on.
 use Prim.Native.Nat.{_-_, _≤_}
-use mathlib.Core.Path.{sym, _∙_}
+use mathlib.Core.Path.{_≡_, sym, ap, _∙_}
 use native.Mathlib.Nat.{le-antisymm}
 use native.Mathlib.Omega.{arith}
+use lib.ListN.{length}
 use Rattle.matrix.specs.Paper.Code.{Matrix}
 use Rattle.matrix.specs.Paper.Shapes.{matrixOf}
-use Rattle.matrix_index.specs.Index.{IndexFilled, UnfilledKept}
-use Rattle.matrix_index.proofs.Entries.{Spot, spot-of, filled-next, filled-row, kept-none, kept-next}
+use Rattle.matrix_index.specs.Filling.{Passed, rowPut}
+use Rattle.matrix_index.proofs.Cursors.{Spot, spot-of, reached, passed-none, passed-step, passed-row}
+use Rattle.matrix_index.proofs.Filling.{put-next, put-long, put-none}
 use Rattle.matrix_index.proofs.place_row.Statement.{statement}
 use Rattle.matrix_index.proofs.place_row.Tie as tie
 
 abbrev Inv-loop : tie.InvT-loop
-Inv-loop shape list i counts₀ index₀ rho k₀ counts index k =
-    (k ≤ rho) × IndexFilled (matrixOf shape list) i k counts index × UnfilledKept (matrixOf shape list) counts index₀ index
+Inv-loop shape list i cursors₀ index₀ rho k₀ cursors index k =
+    (k ≤ rho) × Passed (matrixOf shape list) i k cursors₀ cursors × (index ≡ rowPut (matrixOf shape list) i k index₀)
 
 abbrev μ-loop : tie.MeasureT-loop
-μ-loop shape list i counts₀ index₀ rho k₀ counts index k = rho - k
+μ-loop shape list i cursors₀ index₀ rho k₀ cursors index k = rho - k
 
 -- the matrix that is lent
 abbrev lent : tie.Start Inv-loop μ-loop → Matrix
@@ -23,11 +25,11 @@ lent s = matrixOf (s .args .shape) (s .args .list .now)
 
 -- where the next entry goes, once there is one
 spot : (c : tie.In-loop Inv-loop μ-loop)
-    → Spot (lent (c .before .before .before)) (c .before .before .before .args .i) (c .before .loop .k) (c .before .loop .counts)
+    → Spot (lent (c .before .before .before)) (c .before .before .before .args .i) (c .before .loop .k) (c .before .loop .cursors)
 spot c =
     let s = c .before .before .before in
     let l = c .before .loop in
-    spot-of (lent s) (s .pre .0) (s .args .i) (l .k) (l .counts) (l .index) (s .pre .1) (omega arith) (l .inv .1)
+    spot-of (lent s) (s .pre .0) (s .args .i) (s .pre .1) (l .k) (omega arith) (l .cursors) (l .inv .1 .cursors)
 
 cast-rho : tie.Need-cast-rho Inv-loop μ-loop
 cast-rho c = omega (arith, c .before .pre .0 .sizes .rho-most)
@@ -35,10 +37,13 @@ cast-rho c = omega (arith, c .before .pre .0 .sizes .rho-most)
 loop-holds : tie.Need-loop-holds Inv-loop μ-loop
 loop-holds c =
     let s = c .before in
-    (omega arith, s .pre .2, kept-none (lent s) (s .pre .0) (s .args .counts .now) (s .args .index .now))
+    (omega arith, passed-none (lent s) (s .pre .0) (s .args .i) (s .args .cursors .now) (s .pre .2), put-none (lent s) (s .args .i) (s .args .index .now))
 
-cast-gamma : tie.Need-cast-gamma Inv-loop μ-loop
-cast-gamma c = omega (arith, c .before .before .before .before .pre .0 .sizes .gamma-most)
+cast-base : tie.Need-cast-base Inv-loop μ-loop
+cast-base c = omega (arith, c .before .before .before .before .pre .0 .sizes .n-most)
+
+add-base : tie.Need-add-base Inv-loop μ-loop
+add-base c = omega (arith, c .before .before .before .before .pre .0 .sizes .n-most)
 
 mul-j : tie.Need-mul-j Inv-loop μ-loop
 mul-j c = omega (arith, spot (c .before) .few)
@@ -59,39 +64,49 @@ mul-c : tie.Need-mul-c Inv-loop μ-loop
 mul-c c = omega (arith, spot (c .before .before) .column)
 
 slice-read-c : tie.Need-slice-read-c Inv-loop μ-loop
-slice-read-c c = omega (arith, spot (c .before .before .before) .column, c .before .before .before .before .loop .inv .1 .long-counts)
+slice-read-c c = omega (arith, spot (c .before .before .before) .column, c .before .before .before .before .loop .inv .1 .cursors .long)
 
 cast-c : tie.Need-cast-c Inv-loop μ-loop
-cast-c c = omega (arith, spot (c .before .before .before) .free)
+cast-c c = omega (arith, spot (c .before .before .before) .low)
 
 cast-index : tie.Need-cast-index Inv-loop μ-loop
 cast-index c =
     let s = c .before .before .before .before .before .before in
     omega (arith, s .pre .1, s .pre .0 .sizes .m-most)
 
-mul-index : tie.Need-mul-index Inv-loop μ-loop
-mul-index c = omega (arith, spot (c .before .before .before) .spot)
-
 add-index : tie.Need-add-index Inv-loop μ-loop
-add-index c = omega (arith, spot (c .before .before .before) .spot)
+add-index c =
+    let s = c .before .before .before .before .before .before in
+    omega (arith, spot (c .before .before .before) .low, s .pre .0 .sizes .n-most)
 
-mul-index-2 : tie.Need-mul-index-2 Inv-loop μ-loop
-mul-index-2 c = omega (arith, spot (c .before .before .before) .spot)
+mul-index : tie.Need-mul-index Inv-loop μ-loop
+mul-index c =
+    let s = c .before .before .before .before .before .before in
+    omega (arith, spot (c .before .before .before) .low, s .pre .0 .sizes .n-most)
 
 slice-write-index : tie.Need-slice-write-index Inv-loop μ-loop
-slice-write-index c = omega (arith, spot (c .before .before .before) .spot, c .before .before .before .before .loop .inv .1 .long)
+slice-write-index c =
+    let s = c .before .before .before .before .before .before in
+    let l = c .before .before .before .before .loop in
+    omega (
+      arith,
+      spot (c .before .before .before) .inside,
+      s .pre .3,
+      ap length (l .inv .2),
+      put-long (lent s) (s .args .i) (l .k) (s .args .index .now),
+    )
 
-add-counts : tie.Need-add-counts Inv-loop μ-loop
-add-counts c = omega (arith, spot (c .before .before .before) .free)
+add-cursors : tie.Need-add-cursors Inv-loop μ-loop
+add-cursors c = omega (arith, spot (c .before .before .before) .low)
 
-cast-counts : tie.Need-cast-counts Inv-loop μ-loop
-cast-counts c = omega (arith, spot (c .before .before .before) .free)
+cast-cursors : tie.Need-cast-cursors Inv-loop μ-loop
+cast-cursors c = omega (arith, spot (c .before .before .before) .low)
 
-mul-counts : tie.Need-mul-counts Inv-loop μ-loop
-mul-counts c = omega (arith, spot (c .before .before .before) .column)
+mul-cursors : tie.Need-mul-cursors Inv-loop μ-loop
+mul-cursors c = omega (arith, spot (c .before .before .before) .column)
 
-slice-write-counts : tie.Need-slice-write-counts Inv-loop μ-loop
-slice-write-counts c = omega (arith, spot (c .before .before .before) .column, c .before .before .before .before .loop .inv .1 .long-counts)
+slice-write-cursors : tie.Need-slice-write-cursors Inv-loop μ-loop
+slice-write-cursors c = omega (arith, spot (c .before .before .before) .column, c .before .before .before .before .loop .inv .1 .cursors .long)
 
 add-k : tie.Need-add-k Inv-loop μ-loop
 add-k c = omega (arith, c .before .before .before .before .before .before .pre .0 .sizes .rho-most)
@@ -104,21 +119,25 @@ loop-again c =
     let s = c .before .before .before .before .before .before in
     let l = c .before .before .before .before .loop in (
       omega arith,
-      filled-next (lent s) (s .pre .0) (s .args .i) (l .k) (l .counts) (l .index) (s .pre .1) (omega arith) (l .inv .1),
-      kept-next (lent s) (s .pre .0) (s .args .i) (l .k) (l .counts) (l .index) (s .pre .1) (omega arith) (l .inv .1) (s .args .index .now) (l .inv .2),
+      passed-step (lent s) (s .pre .0) (s .args .i) (s .pre .1) (l .k) (s .args .cursors .now) (l .cursors) (omega arith) (l .inv .1),
+      put-next (lent s) (s .args .i) (l .k) _ (s .args .index .now) (l .index) (reached _ _ (spot (c .before .before .before) .cursor)) (l .inv .2),
     )
 
 same-length : tie.Need-same-length Inv-loop μ-loop
-same-length c = c .before .loop .inv .1 .long-counts ∙ sym (c .before .before .before .pre .2 .long-counts)
+same-length c = c .before .loop .inv .1 .cursors .long ∙ sym (c .before .before .before .pre .2 .long)
 
 same-length-2 : tie.Need-same-length-2 Inv-loop μ-loop
-same-length-2 c = c .before .loop .inv .1 .long ∙ sym (c .before .before .before .pre .2 .long)
+same-length-2 c =
+    let s = c .before .before .before in
+    let l = c .before .loop in
+    ap length (l .inv .2) ∙ put-long (lent s) (s .args .i) (l .k) (s .args .index .now)
 
 returns : tie.Need-returns Inv-loop μ-loop
 returns c =
     let s = c .before .before .before in
     let l = c .before .loop in
-    record { filled = filled-row (lent s) (s .pre .0) _ _ _ (s .pre .1) (rw (le-antisymm (l .inv .0) (omega arith)) at (l .inv .1)); kept = l .inv .2 }
+    let e : l .k ≡ s .args .shape .rho = le-antisymm (l .inv .0) (omega arith) in
+    (passed-row (lent s) (s .pre .0) (s .args .i) (s .pre .1) (s .args .cursors .now) (l .cursors) (rw e at (l .inv .1)), rw e at (l .inv .2))
 
 pub place-row-spec : {M : Type 1} → statement M
 place-row-spec =
@@ -128,7 +147,8 @@ place-row-spec =
     μ-loop
     cast-rho
     loop-holds
-    cast-gamma
+    cast-base
+    add-base
     mul-j
     add-j
     mul-j-2
@@ -138,14 +158,13 @@ place-row-spec =
     slice-read-c
     cast-c
     cast-index
-    mul-index
     add-index
-    mul-index-2
+    mul-index
     slice-write-index
-    add-counts
-    cast-counts
-    mul-counts
-    slice-write-counts
+    add-cursors
+    cast-cursors
+    mul-cursors
+    slice-write-cursors
     add-k
     loop-less
     loop-again

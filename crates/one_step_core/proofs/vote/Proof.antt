@@ -14,7 +14,7 @@ returns c =
     let s = c .before .before .before .before .before in
     let H : Matrix = matrixOf (s .args .shape) (s .args .list .now) in
     let t = c .before .tally in
-    stepped-clean H (s .pre .0) (s .args .bits .now) (t .last .1 .1 .1 .0) (t .result) (t .ensures) (c .if1 .taken)
+    stepped-clean H (s .pre .0) (s .args .bits .now) (t .result) (t .ensures .count) (c .if1 .taken)
 
 flip-all-requires : tie.Need-flip-all-requires
 unfolding Word

@@ -36,11 +36,15 @@ slice-aggregate-until-done-2 c = search needs
 slice-aggregate-until-done-3 : tie.Need-slice-aggregate-until-done-3
 slice-aggregate-until-done-3 c = search needs
 
+slice-aggregate-until-done-4 : tie.Need-slice-aggregate-until-done-4
+slice-aggregate-until-done-4 c = search needs
+
 until-done-requires : tie.Need-until-done-requires
 until-done-requires c κs =
-    let f = c .before .before .before .before .before .before in
+    let f = c .before .before .before .before .before .before .before in
     let room : length (f .first .last .0) ≡ 65536 = omega arith in
-    lent-first (f .first .ensures (replicate 32736 0)) (length-replicate {A = ℕ} 32736 0) (sym (f .before .before .before .large-buffer .ensures)) room
+    lent-first (f .first .ensures (replicate 32736 0)) (length-replicate {A = ℕ} 32736 0) (length-replicate {A = ℕ} 33760 0)
+    (sym (f .before .before .before .large-buffer .ensures)) room
 
 returns : tie.Need-returns
 returns c = search needs
@@ -58,5 +62,6 @@ run-spec =
     slice-aggregate-until-done
     slice-aggregate-until-done-2
     slice-aggregate-until-done-3
+    slice-aggregate-until-done-4
     until-done-requires
     returns)

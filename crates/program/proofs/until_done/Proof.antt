@@ -8,27 +8,31 @@ use Rattle.program.proofs.until_done.Statement.{statement}
 use Rattle.program.proofs.until_done.Tie as tie
 
 abbrev Inv-loop : tie.InvT-loop
-Inv-loop list₀ input₀ out₀ stage₀ want₀ list input out stage want =
-    PieceLent (awaitedOf stage list) want list input out × Replies (awaitedOf stage₀ list₀) (awaitedOf stage list)
+Inv-loop list₀ index₀ input₀ out₀ stage₀ want₀ list index input out stage want =
+    PieceLent (awaitedOf stage list) want list index input out × Replies (awaitedOf stage₀ list₀) (awaitedOf stage list)
 
 abbrev μ-loop : tie.MeasureT-loop
-μ-loop list₀ input₀ out₀ stage₀ want₀ list input out stage want = rank (awaitedOf stage list)
+μ-loop list₀ index₀ input₀ out₀ stage₀ want₀ list index input out stage want = rank (awaitedOf stage list)
 
 loop-holds : tie.Need-loop-holds Inv-loop μ-loop
-loop-holds c = (c .before .before .before .pre, none)
+loop-holds c = (c .before .before .before .before .pre, none)
 
 read-and-reply-requires : tie.Need-read-and-reply-requires Inv-loop μ-loop
-read-and-reply-requires c κs = c .before .before .before .before .loop .inv .0
+read-and-reply-requires c κs = c .before .before .before .before .before .loop .inv .0
 
 loop-less : tie.Need-loop-less Inv-loop μ-loop
-loop-less c = rank-next (c .before .before .before .before .before .before .before .before .before .before .before .loop .inv .0)
-    (c .before .before .before .before .before .before .read-and-reply .ensures) (omega arith)
+loop-less c =
+    let r = c .before .before .before .before .before .before .before .before in
+    rank-next (r .before .before .before .before .before .before .loop .inv .0) (r .read-and-reply .ensures) (omega arith)
 
 loop-again : tie.Need-loop-again Inv-loop μ-loop
 loop-again c =
-    let r = c .before .before .before .before .before .before .read-and-reply in
-    let l = c .before .before .before .before .before .before .before .before .before .before .before .loop in
-    (lent-next (l .inv .0) (r .ensures) (r .kept .1 .1 .0) (r .kept .1 .1 .1 .0) (r .kept .1 .1 .1 .1 .0), one-more (l .inv .0) (r .ensures) (l .inv .1))
+    let a = c .before .before .before .before .before .before .before .before in
+    let r = a .read-and-reply in
+    let l = a .before .before .before .before .before .before .loop in (
+      lent-next (l .inv .0) (r .ensures) (r .kept .1 .1 .0) (r .kept .1 .1 .1 .0) (r .kept .1 .1 .1 .1 .0) (r .kept .1 .1 .1 .1 .1 .0),
+      one-more (l .inv .0) (r .ensures) (l .inv .1),
+    )
 
 same-length : tie.Need-same-length Inv-loop μ-loop
 same-length c = omega arith
@@ -38,6 +42,9 @@ same-length-2 c = omega arith
 
 same-length-3 : tie.Need-same-length-3 Inv-loop μ-loop
 same-length-3 c = omega arith
+
+same-length-4 : tie.Need-same-length-4 Inv-loop μ-loop
+same-length-4 c = omega arith
 
 returns : tie.Need-returns Inv-loop μ-loop
 returns c = record { replies = c .before .loop .inv .1; done = omega (arith, c .before .loop .inv .0 .want) }
@@ -55,4 +62,5 @@ until-done-spec =
     same-length
     same-length-2
     same-length-3
+    same-length-4
     returns)

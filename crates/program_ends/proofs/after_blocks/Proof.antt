@@ -1,21 +1,50 @@
 -- `program_ends::after_blocks` meets its contract. Assumes nothing.
 use mathlib.Core.Path.{_≡_, sym, ap, _∙_, subst}
+use mathlib.Core.List.{List}
 use Prim.Native.Nat.{ℕ, _+_, _*_, _≤_}
 use native.Mathlib.Omega.{arith}
 use lib.ListN.{length, take}
 use lib.Seq.{length-take-le}
+use Rattle.matrix.specs.Paper.Code.{Matrix}
 use Rattle.matrix.specs.Paper.Shapes.{matrixOf}
 use Rattle.matrix.proofs.Rows.{few-entries}
+use Rattle.matrix_index.specs.Paper.Index.{indexOf}
+use Rattle.quantiser_levels.specs.Paper.Samples.{Setting}
 use Rattle.quantiser_settings.specs.Paper.Settings.{settingOf}
 use Rattle.program_turns.specs.Turns.{bytesAtOnce}
 use Rattle.program_lines.specs.Loans.{Countable}
 use Rattle.program_lines.specs.Paper.Blocks.{chunkText}
 use Rattle.program_lines.proofs.BlockLines.{chunk-ends}
 use Rattle.program_ends.specs.Stages.{blocksFrom, ends}
-use Rattle.program_ends.proofs.Replies.{text-alone, replied-over, countable, blocks-last, blocks-more}
+use Rattle.program_ends.proofs.Replies.{text-alone, replied-over, index-front, countable, blocks-last, blocks-more}
 use borrow.Author.Needs.{needs}
 use Rattle.program_ends.proofs.after_blocks.Statement.{statement}
 use Rattle.program_ends.proofs.after_blocks.Tie as tie
+
+-- the matrix with the list at the front of the array, of k entries
+abbrev lent : tie.Start → ℕ → Matrix
+lent s k = matrixOf (s .args .shape) (take k (s .args .list .now))
+
+-- and with all of them
+abbrev whole : tie.Start → Matrix
+whole s = lent s (s .args .shape .m * s .args .shape .rho)
+
+abbrev by : tie.Start → Setting
+by s = settingOf (s .args .setting)
+
+abbrev start : tie.After-entries → tie.Start
+start c = c .before .before .before .before .before .before .before
+
+-- the blocks that came may be printed
+printable : (c : tie.After-entries)
+    → Countable (lent (start c) (c .entries .result)) (by (start c)) (start c .args .number) (start c .args .bytes .now) 0 (start c .args .out .now)
+printable c =
+    let s = start c in
+    let bs = s .args .bytes .now in
+    let o = c .before .at-once .ensures in
+    let came = subst (λ (k : ℕ). length bs ≤ k * (4 * s .args .shape .n)) (sym (o .count)) (s .pre .came) in
+    subst (λ (k : ℕ). Countable (lent s k) (by s) (s .args .number) bs 0 (s .args .out .now)) (sym (c .entries .ensures))
+    (countable (whole s) (by s) (s .pre .readable .0) o came (s .pre .room))
 
 cast-n : tie.Need-cast-n
 cast-n c = search needs
@@ -30,46 +59,56 @@ mul-want-2 : tie.Need-mul-want-2
 mul-want-2 c = search needs
 
 entries-requires : tie.Need-entries-requires
-entries-requires c κs =
-    let s = c .before .before .before .before .before in
-    few-entries _ (s .pre .ready .0 .matrix .sizes)
+entries-requires c κs = few-entries _ (c .before .before .before .before .before .before .pre .readable .0 .matrix .sizes)
+
+add-size : tie.Need-add-size
+add-size c = search needs
+
+add-size-2 : tie.Need-add-size-2
+add-size-2 c = let a = start c .pre .readable .0 .matrix .sizes in omega (arith, a .n-most, c .entries .ensures, few-entries _ a)
 
 slice-aggregate-chunk : tie.Need-slice-aggregate-chunk
 slice-aggregate-chunk c =
-    let s = c .before .before .before .before .before .before .before in
-    sym (length-take-le (c .before .entries .result) (s .args .list .now)
-    (omega (arith, s .pre .list, c .before .entries .ensures, few-entries _ (s .pre .ready .0 .matrix .sizes))))
+    let e = c .before in
+    let s = start e in
+    sym (length-take-le (e .entries .result) (s .args .list .now)
+    (omega (arith, s .pre .list, e .entries .ensures, few-entries _ (s .pre .readable .0 .matrix .sizes))))
+
+slice-aggregate-chunk-2 : tie.Need-slice-aggregate-chunk-2
+slice-aggregate-chunk-2 c =
+    let e = c .before .before in
+    let s = start e in
+    let a = s .pre .readable .0 .matrix .sizes in
+    sym (length-take-le (s .args .shape .n + 1 + e .entries .result) (s .args .index .now)
+    (omega (arith, s .pre .index, a .n-most, e .entries .ensures, few-entries _ a)))
 
 chunk-requires : tie.Need-chunk-requires
 chunk-requires c κs =
-    let e = c .before .before in
-    let s = c .before .before .before .before .before .before .before .before in
-    let i = s .args .number in
-    let S = settingOf (s .args .setting) in
-    let list = s .args .list .now in
-    let bs = s .args .bytes .now in
-    let H = matrixOf (s .args .shape) (take (s .args .shape .m * s .args .shape .rho) list) in
-    let o = e .before .at-once .ensures in
-    let came : length bs ≤ e .before .at-once .result * (4 * H .n) = rw (o .count) (s .pre .came) in
-    let cnt = subst (λ (x : ℕ). Countable (matrixOf (s .args .shape) (take x list)) S i bs 0 (s .args .out .now)) (sym (e .entries .ensures))
-    (countable H S (s .pre .ready .0) o came (s .pre .room)) in
-    cnt
+    let e = c .before .before .before in
+    let s = start e in
+    let x = s .args .index .now in (
+      printable e,
+      subst (λ (k : ℕ). take (s .args .shape .n + 1 + k) x ≡ indexOf (lent s k)) (sym (e .entries .ensures)) (index-front (whole s) x (s .pre .held)),
+    )
 
-ended-requires : tie.Need-ended-requires
-ended-requires c κs =
+run-over-requires : tie.Need-run-over-requires
+run-over-requires c κs =
     let k = c .before .before .before .before in
-    let e = k .before .before .before in
-    let s = c .before .before .before .before .before .before .before .before .before .before .before .before .before in
-    let i = s .args .number in
-    let S = settingOf (s .args .setting) in
-    let list = s .args .list .now in
-    let bs = s .args .bytes .now in
-    let H = matrixOf (s .args .shape) (take (s .args .shape .m * s .args .shape .rho) list) in
-    let o = e .before .at-once .ensures in
-    let came : length bs ≤ e .before .at-once .result * (4 * H .n) = rw (o .count) (s .pre .came) in
-    let cnt = subst (λ (x : ℕ). Countable (matrixOf (s .args .shape) (take x list)) S i bs 0 (s .args .out .now)) (sym (e .entries .ensures))
-    (countable H S (s .pre .ready .0) o came (s .pre .room)) in
-    chunk-ends (matrixOf (s .args .shape) (take (e .entries .result) list)) S i bs 0 (s .args .out .now) cnt (k .chunk .ensures)
+    let e = k .before .before .before .before in
+    let s = start e in
+    chunk-ends (lent s (e .entries .result)) (by s) (s .args .number) (s .args .bytes .now) 0 (s .args .out .now) (printable e) (k .chunk .ensures)
+
+-- the text of the blocks
+abbrev lines : tie.Start → List ℕ
+lines s = chunkText (whole s) (by s) (s .args .number) (s .args .bytes .now)
+
+-- it is all that stands before its end
+text : (c : tie.After-chunk) → take (c .chunk .result) (c .chunk .last .1 .1 .1 .1 .1 .1 .0) ≡ lines (start (c .before .before .before .before))
+text c =
+    let e = c .before .before .before .before in
+    let s = start e in
+    text-alone (c .chunk .ensures) (omega (arith, printable e .room))
+    ∙ ap (λ (k : ℕ). chunkText (lent s k) (by s) (s .args .number) (s .args .bytes .now)) (e .entries .ensures)
 
 same-length : tie.Need-same-length
 same-length c = search needs
@@ -77,22 +116,11 @@ same-length c = search needs
 returns : tie.Need-returns
 returns c =
     let k = c .before .before .before .before .before in
-    let e = k .before .before .before in
-    let s = c .before .before .before .before .before .before .before .before .before .before .before .before .before .before in
-    let i = s .args .number in
-    let S = settingOf (s .args .setting) in
-    let list = s .args .list .now in
-    let bs = s .args .bytes .now in
-    let H = matrixOf (s .args .shape) (take (s .args .shape .m * s .args .shape .rho) list) in
-    let o = e .before .at-once .ensures in
-    let came : length bs ≤ e .before .at-once .result * (4 * H .n) = rw (o .count) (s .pre .came) in
-    let cnt = subst (λ (x : ℕ). Countable (matrixOf (s .args .shape) (take x list)) S i bs 0 (s .args .out .now)) (sym (e .entries .ensures))
-    (countable H S (s .pre .ready .0) o came (s .pre .room)) in
-    let text : take (k .chunk .result) (k .chunk .last .1 .1 .1 .1 .1 .0) ≡ chunkText H S i bs =
-    text-alone (k .chunk .ensures) (omega (arith, cnt .room))
-    ∙ ap (λ (x : ℕ). chunkText (matrixOf (s .args .shape) (take x list)) S i bs) (e .entries .ensures) in
-    replied-over (k .chunk .ensures) (omega (arith, cnt .room)) (c .ended .ensures .1) (ap ends text ∙ blocks-last H S i bs (rw (← o .count) (omega arith)))
-    (c .ended .ensures .0 list)
+    let e = k .before .before .before .before in
+    let s = start e in
+    replied-over (k .chunk .ensures) (omega (arith, printable e .room)) (c .run-over .ensures .1)
+    (ap ends (text k) ∙ blocks-last (whole s) (by s) (s .args .number) (s .args .bytes .now) (rw (← e .before .at-once .ensures .count) (omega arith)))
+    (c .run-over .ensures .0 (s .args .list .now))
 
 cast-at-blocks : tie.Need-cast-at-blocks
 cast-at-blocks c = search needs
@@ -109,27 +137,18 @@ same-length-2 c = search needs
 returns-2 : tie.Need-returns-2
 returns-2 c =
     let k = c .before .before .before .before in
-    let e = k .before .before .before in
-    let s = c .before .before .before .before .before .before .before .before .before .before .before .before .before in
+    let e = k .before .before .before .before in
+    let s = start e in
     let i = s .args .number in
-    let S = settingOf (s .args .setting) in
-    let list = s .args .list .now in
     let bs = s .args .bytes .now in
-    let H = matrixOf (s .args .shape) (take (s .args .shape .m * s .args .shape .rho) list) in
     let o = e .before .at-once .ensures in
-    let came : length bs ≤ e .before .at-once .result * (4 * H .n) = rw (o .count) (s .pre .came) in
-    let cnt = subst (λ (x : ℕ). Countable (matrixOf (s .args .shape) (take x list)) S i bs 0 (s .args .out .now)) (sym (e .entries .ensures))
-    (countable H S (s .pre .ready .0) o came (s .pre .room)) in
-    let text : take (k .chunk .result) (k .chunk .last .1 .1 .1 .1 .1 .0) ≡ chunkText H S i bs =
-    text-alone (k .chunk .ensures) (omega (arith, cnt .room))
-    ∙ ap (λ (x : ℕ). chunkText (matrixOf (s .args .shape) (take x list)) S i bs) (e .entries .ensures) in
     let b = c .at-blocks .ensures in
-    replied-over (k .chunk .ensures) (omega (arith, cnt .room)) (b .2) (blocks-more H S i bs (rw (← o .count) (omega arith)))
+    replied-over (k .chunk .ensures) (omega (arith, printable e .room)) (b .2) (blocks-more (whole s) (by s) i bs (rw (← o .count) (omega arith)))
     (record {
-      awaited = b .0 list ∙ ap (λ (x : ℕ). blocksFrom H S (i + x)) (o .count);
-      want = b .1 ∙ ap (λ (x : ℕ). bytesAtOnce (H .n) (i + x)) (o .count);
-      text = ap (λ (x : ℕ). take x (k .chunk .last .1 .1 .1 .1 .1 .0)) (b .2) ∙ text;
-      fits = omega (arith, b .2, chunk-ends (matrixOf (s .args .shape) (take (e .entries .result) list)) S i bs 0 (s .args .out .now) cnt (k .chunk .ensures));
+      awaited = b .0 (s .args .list .now) ∙ ap (λ (x : ℕ). blocksFrom (whole s) (by s) (i + x)) (o .count);
+      want = b .1 ∙ ap (λ (x : ℕ). bytesAtOnce (s .args .shape .n) (i + x)) (o .count);
+      text = ap (λ (x : ℕ). take x (k .chunk .last .1 .1 .1 .1 .1 .1 .0)) (b .2) ∙ text k;
+      fits = omega (arith, b .2, chunk-ends (lent s (e .entries .result)) (by s) i bs 0 (s .args .out .now) (printable e) (k .chunk .ensures));
     })
 
 pub after-blocks-spec : {M : Type 1} → statement M
@@ -141,9 +160,12 @@ after-blocks-spec =
     mul-want
     mul-want-2
     entries-requires
+    add-size
+    add-size-2
     slice-aggregate-chunk
+    slice-aggregate-chunk-2
     chunk-requires
-    ended-requires
+    run-over-requires
     same-length
     returns
     cast-at-blocks

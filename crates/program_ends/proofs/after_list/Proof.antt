@@ -13,18 +13,18 @@ use Rattle.program_ends.proofs.after_list.Statement.{statement}
 use Rattle.program_ends.proofs.after_list.Tie as tie
 
 entries-requires : tie.Need-entries-requires
-entries-requires c κs = few (matrixOf (c .before .before .before .args .shape) []) (c .before .before .before .pre .ready)
+entries-requires c κs = few (matrixOf (c .before .before .before .args .shape) []) (c .before .before .before .pre .0)
 
 mul-want : tie.Need-mul-want
 mul-want c =
     let s = c .before .before .before .before in
-    omega (arith, c .entries .ensures, few (matrixOf (s .args .shape) []) (s .pre .ready))
+    omega (arith, c .entries .ensures, few (matrixOf (s .args .shape) []) (s .pre .0))
 
 put-short-requires : tie.Need-put-short-requires
 put-short-requires c κs = search needs
 
-ended-requires : tie.Need-ended-requires
-ended-requires c κs = search needs
+run-over-requires : tie.Need-run-over-requires
+run-over-requires c κs = search needs
 
 same-length : tie.Need-same-length
 same-length c = search needs
@@ -33,18 +33,17 @@ returns : tie.Need-returns
 returns c =
     let p = c .before .before .before .before in
     let s = p .before .before .before .before .before .before .before in
-    let H = matrixOf (s .args .shape) [] in
-    record {
-      replied = replied-over (p .put-short .ensures) (omega (arith, s .pre .room)) (c .ended .ensures .1)
-          (ap ends (text-alone (p .put-short .ensures) (omega (arith, s .pre .room))) ∙ list-short H (s .args .bytes .now) (omega arith))
-          (c .ended .ensures .0 _);
-      list = kept-short H (s .args .bytes .now) _ (omega arith);
-    }
+    let H = matrixOf (s .args .shape) [] in (
+      replied-over (p .put-short .ensures) (omega (arith, s .pre .3)) (c .run-over .ensures .1)
+          (ap ends (text-alone (p .put-short .ensures) (omega (arith, s .pre .3))) ∙ list-short H (s .args .bytes .now) (omega arith))
+          (c .run-over .ensures .0 _),
+      kept-short H (s .args .bytes .now) _ (omega arith),
+    )
 
 entries-requires-2 : tie.Need-entries-requires-2
 entries-requires-2 c κs =
     let s = c .before .before .before .before .before .before in
-    omega (arith, s .pre .came, s .pre .list, few (matrixOf (s .args .shape) []) (s .pre .ready))
+    omega (arith, s .pre .1, s .pre .2, few (matrixOf (s .args .shape) []) (s .pre .0))
 
 same-length-2 : tie.Need-same-length-2
 same-length-2 c = search needs
@@ -54,9 +53,8 @@ returns-2 c =
     let s = c .before .before .before .before .before .before .before .before .before in
     let H = matrixOf (s .args .shape) [] in
     let bs = s .args .bytes .now in
-    let whole : length bs ≡ 2 * (H .m * H .rho) = omega (arith, s .pre .came) in
-    record {
-      replied = record {
+    let whole : length bs ≡ 2 * (H .m * H .rho) = omega (arith, s .pre .1) in (
+      record {
         reply = replied-as (list-whole H bs (omega arith))
             (record {
               awaited = ap (λ (l : List _). theSetting (matrixOf (s .args .shape) l))
@@ -66,9 +64,9 @@ returns-2 c =
               fits = omega arith;
             });
         rest = refl;
-      };
-      list = c .before .before .entries2 .ensures ∙ written-whole H bs _ (omega arith);
-    }
+      },
+      c .before .before .entries2 .ensures ∙ written-whole H bs _ (omega arith),
+    )
 
 pub after-list-spec : {M : Type 1} → statement M
 after-list-spec =
@@ -77,7 +75,7 @@ after-list-spec =
     entries-requires
     mul-want
     put-short-requires
-    ended-requires
+    run-over-requires
     same-length
     returns
     entries-requires-2

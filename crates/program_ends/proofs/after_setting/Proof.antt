@@ -1,25 +1,59 @@
 -- `program_ends::after_setting` meets its contract. Assumes nothing.
-use mathlib.Core.Path.{refl, sym, ap, _∙_}
+use mathlib.Core.Path.{_≡_, refl, sym, ap, _∙_}
 use Prim.Native.Nat.{ℕ, _*_}
 use native.Mathlib.Omega.{arith}
 use lib.ListN.{take}
 use lib.Seq.{length-take-le}
+use Rattle.counting.specs.Paper.Lists.{over}
+use Rattle.matrix.specs.Paper.Code.{Matrix}
+use Rattle.matrix.specs.Paper.PlainCheck.{Accepted}
 use Rattle.matrix.specs.Paper.Shapes.{matrixOf}
+use Rattle.matrix_index.specs.Paper.Index.{indexOf}
+use Rattle.matrix_index.proofs.Filling.{size-small}
 use Rattle.program_input.specs.Paper.Input.{settingIn}
-use Rattle.program_input.specs.Paper.Opening.{opening, openingVerdict}
+use Rattle.program_input.specs.Paper.Opening.{Opening, opening, openingVerdict}
 use Rattle.program_input.specs.Runs.{openedOf}
 use Rattle.program_input.proofs.Openings.{decodable}
 use Rattle.program_ends.specs.Stages.{ends}
-use Rattle.program_ends.proofs.Replies.{text-alone, replied-as, replied-over, setting-short, setting-whole, opened-reply}
+use Rattle.program_ends.proofs.Replies.{text-alone, replied-as, replied-over, setting-short, setting-whole, opened-reply, opened-index}
 use borrow.Author.Needs.{needs}
 use Rattle.program_ends.proofs.after_setting.Statement.{statement}
 use Rattle.program_ends.proofs.after_setting.Tie as tie
 
+-- the matrix with the list at the front of the array, of k entries
+abbrev lent : tie.Start → ℕ → Matrix
+lent s k = matrixOf (s .args .shape) (take k (s .args .list .now))
+
+-- and with all of them
+abbrev whole : tie.Start → Matrix
+whole s = lent s (s .args .shape .m * s .args .shape .rho)
+
+abbrev start : tie.After-entries → tie.Start
+start c = c .before .before .before .before .before .before
+
+-- where the run opens, it is accepted
+accepted : (c : tie.After-opened) → Accepted (lent (start (c .before .before .before .before)) (c .before .before .before .before .entries .result))
+accepted c =
+    let e = c .before .before .before .before in
+    decodable (lent (start e) (e .entries .result)) (settingIn (start e .args .bytes .now)) _ (c .before .before .begin .ensures)
+    (ap openedOf (c .opened .given .1)) .matrix
+
+-- how the run is to begin
+abbrev begins : tie.Start → Opening
+begins s = let S = settingIn (s .args .bytes .now) in opening (openingVerdict (whole s) S) S
+
+-- so it does
+found : (c : tie.After-begin) → openedOf (c .begin .result) ≡ begins (start (c .before .before))
+found c =
+    let s = start (c .before .before) in
+    let S = settingIn (s .args .bytes .now) in
+    c .begin .ensures ∙ ap (λ (k : ℕ). opening (openingVerdict (lent s k) S) S) (c .before .before .entries .ensures)
+
 put-short-requires : tie.Need-put-short-requires
 put-short-requires c κs = search needs
 
-ended-requires : tie.Need-ended-requires
-ended-requires c κs = search needs
+run-over-requires : tie.Need-run-over-requires
+run-over-requires c κs = search needs
 
 same-length : tie.Need-same-length
 same-length c = search needs
@@ -27,19 +61,23 @@ same-length c = search needs
 returns : tie.Need-returns
 returns c =
     let p = c .before .before .before .before in
-    let s = p .before .before .before .before .before .before in
-    let H = matrixOf (s .args .shape) (take (s .args .shape .m * s .args .shape .rho) (s .args .list .now)) in
-    replied-over (p .put-short .ensures) (omega (arith, s .pre .room)) (c .ended .ensures .1)
-    (ap ends (text-alone (p .put-short .ensures) (omega (arith, s .pre .room))) ∙ setting-short H (s .args .bytes .now) (omega arith))
-    (c .ended .ensures .0 _)
+    let s = p .before .before .before .before .before .before .before in
+    let H = whole s in
+    let bs = s .args .bytes .now in
+    let short = setting-short H bs (omega arith) in (
+      replied-over (p .put-short .ensures) (omega (arith, s .pre .room)) (c .run-over .ensures .1)
+          (ap ends (text-alone (p .put-short .ensures) (omega (arith, s .pre .room))) ∙ short) (c .run-over .ensures .0 _),
+      opened-index H bs (s .args .index .now) short,
+    )
 
 entries-requires : tie.Need-entries-requires
 entries-requires c κs = search needs
 
 slice-aggregate-begin : tie.Need-slice-aggregate-begin
 slice-aggregate-begin c =
-    let s = c .before .before .before .before .before .before in
-    sym (length-take-le (c .before .entries .result) (s .args .list .now) (omega (arith, s .pre .ready, s .pre .list, c .before .entries .ensures)))
+    let e = c .before in
+    let s = start e in
+    sym (length-take-le (e .entries .result) (s .args .list .now) (omega (arith, s .pre .readable, s .pre .list, e .entries .ensures)))
 
 begin-requires : tie.Need-begin-requires
 begin-requires c κs = search needs
@@ -47,14 +85,20 @@ begin-requires c κs = search needs
 enum-known-opened : tie.Need-enum-known-opened
 enum-known-opened c = search needs
 
+slice-aggregate-build : tie.Need-slice-aggregate-build
+slice-aggregate-build c =
+    let e = c .before .before .before .before .before .before in
+    let s = start e in
+    sym (length-take-le (e .entries .result) (s .args .list .now) (omega (arith, s .pre .readable, s .pre .list, e .entries .ensures)))
+
+build-requires : tie.Need-build-requires
+build-requires c κs =
+    let e = c .before .before .before .before .before .before .before in
+    let a = accepted (c .before .before .before) in
+    (a, omega (arith, size-small (lent (start e) (e .entries .result)) a, start e .pre .index))
+
 at-blocks-requires : tie.Need-at-blocks-requires
-at-blocks-requires c κs =
-    let b = c .before .before .before in
-    let s = c .before .before .before .before .before .before .before .before .before .before in
-    let n = b .before .before .entries .result in
-    let d = decodable (matrixOf (s .args .shape) (take n (s .args .list .now))) (settingIn (s .args .bytes .now)) _ (b .begin .ensures)
-    (ap openedOf (c .before .opened .given .1)) in
-    (d .matrix .sizes .n-least, d .matrix .sizes .n-most)
+at-blocks-requires c κs = let a = accepted (c .before .before .before .before .before .before) in (a .sizes .n-least, a .sizes .n-most)
 
 enum-known-opened-2 : tie.Need-enum-known-opened-2
 enum-known-opened-2 c = search needs
@@ -62,66 +106,70 @@ enum-known-opened-2 c = search needs
 put-refused-requires : tie.Need-put-refused-requires
 put-refused-requires c κs = search needs
 
-ended-requires-2 : tie.Need-ended-requires-2
-ended-requires-2 c κs = search needs
-
-returns-2 : tie.Need-returns-2
-returns-2 c =
-    let o = c .before in
-    let b = o .before .before .before in
-    let s = c .before .before .before .before .before .before .before .before .before .before .before in
-    let S = settingIn (s .args .bytes .now) in
-    let list = s .args .list .now in
-    let k = s .args .shape .m * s .args .shape .rho in
-    let H = matrixOf (s .args .shape) (take k list) in
-    let e = b .begin .ensures ∙ ap (λ (x : ℕ). opening (openingVerdict (matrixOf (s .args .shape) (take x list)) S) S) (b .before .before .entries .ensures) in
-    record {
-      reply = replied-as (opened-reply H e (ap openedOf (o .before .opened .given .1)) ∙ setting-whole H (s .args .bytes .now) (omega arith))
-          (record {
-            awaited = c .at-blocks .ensures .0 list;
-            want = c .at-blocks .ensures .1;
-            text = ap (λ (x : ℕ). take x (s .args .out .now)) (c .at-blocks .ensures .2);
-            fits = omega (arith, c .at-blocks .ensures .2);
-          });
-      rest = refl;
-    }
+run-over-requires-2 : tie.Need-run-over-requires-2
+run-over-requires-2 c κs = search needs
 
 same-length-2 : tie.Need-same-length-2
 same-length-2 c = search needs
 
+returns-2 : tie.Need-returns-2
+returns-2 c =
+    let o = c .before .before .before .before .before .before .before in
+    let e = c .before .before .before .before .before .before .before .before .before .before .before in
+    let s = start e in
+    let list = s .args .list .now in
+    let x = s .args .index .now in
+    let H = whole s in
+    let bs = s .args .bytes .now in
+    let opens = opened-reply H (found (o .before .before)) (ap openedOf (o .opened .given .1)) ∙ setting-whole H bs (omega arith) in (
+      record {
+        reply = replied-as opens
+            (record {
+              awaited = c .at-blocks .ensures .0 list;
+              want = c .at-blocks .ensures .1;
+              text = ap (λ (k : ℕ). take k (s .args .out .now)) (c .at-blocks .ensures .2);
+              fits = omega (arith, c .at-blocks .ensures .2);
+            });
+        rest = refl;
+      },
+      c .before .before .before .build .ensures ∙ ap (λ (k : ℕ). over (indexOf (lent s k)) x) (e .entries .ensures) ∙ opened-index H bs x opens,
+    )
+
+same-length-3 : tie.Need-same-length-3
+same-length-3 c = search needs
+
 returns-3 : tie.Need-returns-3
 returns-3 c =
     let p = c .before .before .before .before in
-    let o = p .before .before in
-    let b = o .before .before .before in
-    let s = c .before .before .before .before .before .before .before .before .before .before .before .before .before .before .before .before in
-    let S = settingIn (s .args .bytes .now) in
-    let list = s .args .list .now in
-    let k = s .args .shape .m * s .args .shape .rho in
-    let H = matrixOf (s .args .shape) (take k list) in
-    let e = b .begin .ensures ∙ ap (λ (x : ℕ). opening (openingVerdict (matrixOf (s .args .shape) (take x list)) S) S) (b .before .before .entries .ensures) in
-    replied-over (p .put-refused .ensures) (omega (arith, s .pre .room)) (c .ended2 .ensures .1)
-    (ap ends (text-alone (p .put-refused .ensures) (omega (arith, s .pre .room)))
-    ∙ opened-reply H e (ap openedOf (o .before .opened2 .given .1))
-    ∙ setting-whole H (s .args .bytes .now) (omega arith))
-    (c .ended2 .ensures .0 list)
+    let o = c .before .before .before .before .before .before .before in
+    let s = start (c .before .before .before .before .before .before .before .before .before .before .before) in
+    let H = whole s in
+    let bs = s .args .bytes .now in
+    let opens = opened-reply H (found (o .before .before)) (ap openedOf (o .opened2 .given .1)) ∙ setting-whole H bs (omega arith) in (
+      replied-over (p .put-refused .ensures) (omega (arith, s .pre .room)) (c .run-over2 .ensures .1)
+          (ap ends (text-alone (p .put-refused .ensures) (omega (arith, s .pre .room))) ∙ opens) (c .run-over2 .ensures .0 (s .args .list .now)),
+      opened-index H bs (s .args .index .now) opens,
+    )
 
 pub after-setting-spec : {M : Type 1} → statement M
 after-setting-spec =
     tie.close
     (tie.spec
     put-short-requires
-    ended-requires
+    run-over-requires
     same-length
     returns
     entries-requires
     slice-aggregate-begin
     begin-requires
     enum-known-opened
+    slice-aggregate-build
+    build-requires
     at-blocks-requires
     enum-known-opened-2
     put-refused-requires
-    ended-requires-2
-    returns-2
+    run-over-requires-2
     same-length-2
+    returns-2
+    same-length-3
     returns-3)

@@ -17,8 +17,8 @@ use Rattle.program_ends.proofs.after_sizes.Tie as tie
 put-short-requires : tie.Need-put-short-requires
 put-short-requires c κs = search needs
 
-ended-requires : tie.Need-ended-requires
-ended-requires c κs = search needs
+run-over-requires : tie.Need-run-over-requires
+run-over-requires c κs = search needs
 
 same-length : tie.Need-same-length
 same-length c = search needs
@@ -27,8 +27,8 @@ returns : tie.Need-returns
 returns c =
     let p = c .before .before .before .before in
     let bs = c .before .before .before .before .before .before .before .before .before .args .bytes .now in
-    λ l. replied-over (p .put-short .ensures) (omega arith) (c .ended .ensures .1)
-    (ap ends (text-alone (p .put-short .ensures) (omega arith)) ∙ sizes-short bs (omega arith)) (c .ended .ensures .0 l)
+    λ l. replied-over (p .put-short .ensures) (omega arith) (c .run-over .ensures .1)
+    (ap ends (text-alone (p .put-short .ensures) (omega arith)) ∙ sizes-short bs (omega arith)) (c .run-over .ensures .0 l)
 
 sizes-requires : tie.Need-sizes-requires
 sizes-requires c κs = search needs
@@ -39,8 +39,8 @@ sizes-refused-requires c κs = search needs
 put-refused-requires : tie.Need-put-refused-requires
 put-refused-requires c κs = search needs
 
-ended-requires-2 : tie.Need-ended-requires-2
-ended-requires-2 c κs = search needs
+run-over-requires-2 : tie.Need-run-over-requires-2
+run-over-requires-2 c κs = search needs
 
 same-length-2 : tie.Need-same-length-2
 same-length-2 c = search needs
@@ -52,8 +52,8 @@ returns-2 c =
     let bs = r .before .before .before .before .before .args .bytes .now in
     let e = ap (λ (f : List ℕ → Matrix). f []) (r .before .sizes .ensures) in
     let off = sym (ap sizesFit e) ∙ not-true _ (sym (r .sizes-refused .ensures) ∙ p .before .before .if2 .taken) in
-    λ l. replied-over (p .put-refused .ensures) (omega arith) (c .ended2 .ensures .1)
-    (ap ends (text-alone (p .put-refused .ensures) (omega arith)) ∙ sizes-refused bs (omega arith) off) (c .ended2 .ensures .0 l)
+    λ l. replied-over (p .put-refused .ensures) (omega arith) (c .run-over2 .ensures .1)
+    (ap ends (text-alone (p .put-refused .ensures) (omega arith)) ∙ sizes-refused bs (omega arith) off) (c .run-over2 .ensures .0 l)
 
 entries-requires : tie.Need-entries-requires
 entries-requires c κs =
@@ -82,13 +82,13 @@ after-sizes-spec =
     tie.close
     (tie.spec
     put-short-requires
-    ended-requires
+    run-over-requires
     same-length
     returns
     sizes-requires
     sizes-refused-requires
     put-refused-requires
-    ended-requires-2
+    run-over-requires-2
     same-length-2
     returns-2
     entries-requires

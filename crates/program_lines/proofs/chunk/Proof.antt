@@ -12,8 +12,8 @@ cast-size c = search needs
 mul-size : tie.Need-mul-size
 mul-size c = search needs
 
-all-lines-requires : tie.Need-all-lines-requires
-all-lines-requires c κs = search needs
+lines-requires : tie.Need-lines-requires
+lines-requires c κs = search needs
 
 rem-if1 : tie.Need-rem-if1
 rem-if1 c = search needs
@@ -24,10 +24,10 @@ same-length c = search needs
 returns : tie.Need-returns
 returns c =
     let p = c .before .before .before in
-    let s = p .before .before .before .before .before .before in
+    let s = p .before .before .before .before .before .before .before in
     chunk-whole (matrixOf (s .args .shape) (s .args .list .now)) (settingOf (s .args .setting)) (s .args .number) (s .args .bytes .now) (s .args .at)
     (s .args .out .now)
-    (c .if1 .taken) (p .all-lines .ensures)
+    (c .if1 .taken) (p .lines .ensures)
 
 put-short-requires : tie.Need-put-short-requires
 put-short-requires c κs = search needs
@@ -39,10 +39,10 @@ returns-2 : tie.Need-returns-2
 returns-2 c =
     let q = c .before .before in
     let p = q .before .before .before .before .before in
-    let s = p .before .before .before .before .before .before in
+    let s = p .before .before .before .before .before .before .before in
     chunk-cut (matrixOf (s .args .shape) (s .args .list .now)) (settingOf (s .args .setting)) (s .args .number) (s .args .bytes .now) (s .args .at)
     (s .args .out .now)
-    (q .before .before .if1 .left) (p .all-lines .ensures) (q .put-short .ensures)
+    (q .before .before .if1 .left) (p .lines .ensures) (q .put-short .ensures)
 
 pub chunk-spec : {M : Type 1} → statement M
 chunk-spec =
@@ -50,7 +50,7 @@ chunk-spec =
     (tie.spec
     cast-size
     mul-size
-    all-lines-requires
+    lines-requires
     rem-if1
     same-length
     returns

@@ -1,0 +1,2 @@
+-- What the contracts of `iterative_indexed` cite.
+pub mod Paper

@@ -1,0 +1,12 @@
+-- The votes of a word that follows another one.
+--   Retallied H z p p′ v f   == p becomes p′, the parities of the word z; v are the votes and f the failing checks of z
+-- Assumes nothing.
+use Prim.Native.Nat.{ℕ}
+use mathlib.Core.List.{List}
+use Rattle.matrix.specs.Paper.Code.{Matrix}
+use Rattle.syndrome_update.specs.Parities.{Renewed}
+use Rattle.majority_votes.specs.Tallies.{Tallied}
+
+pub record Retallied (H : Matrix) (z : ℕ → ℕ) (p p′ v : List ℕ) (f : ℕ) : Type 0 where
+  pub renewed : Renewed H z p p′
+  pub tallied : Tallied H z v f

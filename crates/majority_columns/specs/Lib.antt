@@ -1,0 +1,2 @@
+-- What the contracts of `majority_columns` cite.
+pub mod ColumnVotes

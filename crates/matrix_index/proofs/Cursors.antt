@@ -1,0 +1,148 @@
+-- Laws of the cursors, which have for each column where its next row goes.
+--   start-is        == a starting place as it is computed
+--   start-small     == it is at most 1,024 * 32
+--   reached         == a row's place as the code adds it up
+--   start-equal     == where every column has gamma ones, column j starts at j * gamma
+--   entry-alone     == no earlier entry of a row has the column of a later one
+--   cursor-is       == the cursor of the next entry's column is at that entry's place
+--   cursor-small    == no cursor lies past the row numbers
+--   cursors-none    == before the first row each cursor is at its column's starting place
+--   cursors-step    == one entry more
+--   cursors-row     == a row with all of its entries passed is done
+--   passed-none     == nothing is passed yet
+--   passed-step     == passing one entry more moves one cursor, and none past the columns
+--   passed-row      == a row with all of its entries passed is done
+--   Spot            == the next place of the list, its column, and the place of the row there
+--   spot-of         == the next entry has its spot
+-- Assumes nothing.
+use mathlib.Core.Path.{_≡_, refl, sym, ap, _∙_}
+use mathlib.Core.List.{List}
+use mathlib.Core.Logic.{inl, inr}
+use Prim.Native.Nat.{ℕ, suc, _+_, _*_, _≤_, _<_}
+use native.Mathlib.Nat.{mul-le-mul}
+use native.Mathlib.Numerals.{add-one}
+use native.Mathlib.Omega.{arith}
+use lib.ListN.{length, set, replicate, length-set, length-replicate}
+use lib.Seq.{getD-set-other}
+use Rattle.counting.specs.Paper.Sum.{sumBelow, same}
+use Rattle.counting.specs.Paper.Lists.{listed, over}
+use Rattle.counting.specs.Places.{at}
+use Rattle.counting.proofs.Sums.{sum-cong, sum-const, sum-zero, sum-next, same-refl, same-ne}
+use Rattle.counting.proofs.Writes.{stored, over-long, over-at}
+use Rattle.matrix.specs.Paper.Code.{Matrix, entry, has, weight}
+use Rattle.matrix.specs.Paper.PlainCheck.{Accepted}
+use Rattle.matrix.proofs.Rows.{few-entries, in-list, ascends}
+use Rattle.matrix.proofs.Weights.{weight-equal}
+use Rattle.matrix_index.specs.Paper.Index.{columnStart, indexSize}
+use Rattle.matrix_index.specs.Filling.{before, inRow, startBy, rowPlace, Cursors, Passed}
+use Rattle.matrix_index.proofs.Parts.{place-inside}
+
+-- the next place of the list, its column, and the place of the row there
+pub record Spot (H : Matrix) (i k : ℕ) (c : List ℕ) : Type 0 where
+  pub place : i * H .rho + k < length (H .list)
+  pub few : i * H .rho + k < 32736
+  pub column : at (H .list) (i * H .rho + k) < 1023
+  pub cursor : suc (H .n) + at c (at (H .list) (i * H .rho + k)) ≡ rowPlace H i k
+  pub inside : suc (H .n) + at c (at (H .list) (i * H .rho + k)) < indexSize H
+  pub low : at c (at (H .list) (i * H .rho + k)) < 32736
+
+-- a starting place as it is computed
+pub start-is : (gamma j : ℕ) → j * gamma ≡ startBy gamma j
+unfolding startBy
+start-is gamma j = refl
+
+-- it is at most 1,024 * 32
+pub start-small : (j gamma : ℕ) → j ≤ 1024 → gamma ≤ 32 → j * gamma ≤ 32768
+start-small j gamma h l = mul-le-mul {n₁ = j} {m₁ = gamma} {n₂ = 1024} {m₂ = 32} h l
+
+-- a row's place as the code adds it up
+pub reached : (n c : ℕ) {p : ℕ} → suc n + c ≡ p → n + 1 + c ≡ p
+reached n c e = omega (arith, e)
+
+module _ (H : Matrix) (a : Accepted H) where
+  -- where every column has gamma ones, column j starts at j * gamma
+  pub start-equal : (j : ℕ) → j ≤ H .n → columnStart H j ≡ startBy (H .gamma) j
+  unfolding columnStart startBy
+  start-equal j l = sum-cong j (λ x h. weight-equal H a (a .sizes .product) x (omega arith)) ∙ sum-const j (H .gamma)
+
+  -- before the first row each cursor is at its column's starting place
+  pub cursors-none : (c : List ℕ) → c ≡ over (listed (H .n) (startBy (H .gamma))) (replicate 1023 0) → Cursors H 0 0 c
+  unfolding before inRow sumBelow
+  cursors-none c e =
+      record {
+        long = over-long (H .n) (startBy (H .gamma)) (replicate 1023 0) c e (omega (arith, a .sizes .n-most, length-replicate {A = ℕ} 1023 0))
+            ∙ length-replicate {A = ℕ} 1023 0;
+        each = λ j l. over-at (H .n) (startBy (H .gamma)) (replicate 1023 0) c e 0 j l ∙ sym (start-equal j (omega arith)) ∙ omega arith;
+      }
+
+  -- nothing is passed yet
+  pub passed-none : (i : ℕ) (c : List ℕ) → Cursors H i 0 c → Passed H i 0 c c
+  passed-none i c u = record { cursors = u; beyond = λ j l. refl }
+
+  module _ (i : ℕ) (row : i < H .m) where
+    -- no earlier entry of a row has the column of a later one
+    pub entry-alone : (k : ℕ) → k < H .rho → inRow H i k (entry H i k) ≡ 0
+    unfolding inRow
+    entry-alone k h = sum-zero k (λ q l. same-ne (entry H i q) (entry H i k) (λ e. omega (arith, ascends H (a .rows) i q k row l h)))
+
+    module _ (k : ℕ) (h : k < H .rho) (c : List ℕ) (u : Cursors H i k c) where
+      -- the cursor of the next entry's column is at that entry's place
+      pub cursor-is : suc (H .n) + at c (entry H i k) ≡ rowPlace H i k
+      unfolding rowPlace
+      cursor-is = omega (arith, u .each (entry H i k) (a .rows .below i k row h), entry-alone k h)
+
+      inside : suc (H .n) + at c (entry H i k) < indexSize H
+      inside = omega (arith, cursor-is, place-inside H (a .rows) i k row h)
+
+      -- no cursor lies past the row numbers
+      pub cursor-small : at c (entry H i k) < 32736
+      unfolding indexSize
+      cursor-small = omega (arith, inside, few-entries H (a .sizes))
+
+      -- the next entry has its spot
+      pub spot-of : Spot H i k c
+      unfolding entry
+      spot-of =
+          record {
+            place = in-list H (a .rows) i k row h;
+            few = omega (arith, in-list H (a .rows) i k row h, a .rows .whole, few-entries H (a .sizes));
+            column = omega (arith, a .rows .below i k row h, a .sizes .n-most);
+            cursor = cursor-is;
+            inside = inside;
+            low = cursor-small;
+          }
+
+      in-cursors : entry H i k < length c
+      in-cursors = omega (arith, u .long, a .rows .below i k row h, a .sizes .n-most)
+
+      -- one entry more
+      pub cursors-step : Cursors H i (k + 1) (set c (entry H i k) (at c (entry H i k) + 1))
+      unfolding inRow sumBelow
+      cursors-step =
+          rw (add-one k)
+          record {
+            long = length-set c (entry H i k) (at c (entry H i k) + 1) ∙ u .long;
+            each = λ j l. elim (stored c (entry H i k) (at c (entry H i k) + 1) j in-cursors) [
+              | inl e ↦ rw (e .1) (omega (arith, rw (e .1) at (e .0), u .each (entry H i k) (a .rows .below i k row h), same-refl (entry H i k)))
+              | inr e ↦ omega (arith, e .0, u .each j l, same-ne (entry H i k) j (λ q. e .1 (sym q)))
+            ];
+          }
+
+    -- passing one entry more moves one cursor, and none past the columns
+    pub passed-step : (k : ℕ) (c₀ c : List ℕ) → k < H .rho → Passed H i k c₀ c
+        → Passed H i (k + 1) c₀ (set c (at (H .list) (i * H .rho + k)) (at c (at (H .list) (i * H .rho + k)) + 1))
+    unfolding entry
+    passed-step k c₀ c h p =
+        record {
+          cursors = cursors-step k h c (p .cursors);
+          beyond = λ j l.
+              getD-set-other c (entry H i k) j (at c (entry H i k) + 1) 0 (λ e. omega (arith, a .rows .below i k row h)) ∙ p .beyond j l;
+        }
+
+    -- a row with all of its entries passed is done
+    pub cursors-row : (c : List ℕ) → Cursors H i (H .rho) c → Cursors H (i + 1) 0 c
+    unfolding before inRow has sumBelow
+    cursors-row c u = rw (add-one i) record { long = u .long; each = λ j l. omega (arith, u .each j l) }
+
+    pub passed-row : (c₀ c : List ℕ) → Passed H i (H .rho) c₀ c → Passed H (i + 1) 0 c₀ c
+    passed-row c₀ c p = record { cursors = cursors-row c (p .cursors); beyond = p .beyond }

@@ -1,0 +1,3 @@
+-- What a reader must believe: the definition of the index, and its plain reading.
+pub mod Index
+pub mod PlainIndex

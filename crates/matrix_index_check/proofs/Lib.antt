@@ -1,0 +1,3 @@
+pub mod Comparison
+pub mod Answers
+pub mod Claims

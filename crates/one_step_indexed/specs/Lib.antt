@@ -1,0 +1,2 @@
+-- What the contracts of `one_step_indexed` cite.
+pub mod Paper

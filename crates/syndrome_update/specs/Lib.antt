@@ -1,0 +1,2 @@
+-- What the contracts of `syndrome_update` cite.
+pub mod Parities
