@@ -1,7 +1,5 @@
 -- `ffi::mlgd_one_step_indexed` meets its contract: the code of what the call says, and the word that it writes. Assumes nothing.
 use mathlib.Core.Path.{sym, ap, subst, _∙_}
-use lib.ListN.{length}
-use Rattle.matrix.specs.Paper.Code.{matrix}
 use Rattle.ffi_codes.specs.Codes.{codeOf, Small}
 use Rattle.ffi.proofs.Bounds.{one-step-indexed-small}
 use borrow.Author.Needs.{needs}
@@ -12,10 +10,7 @@ one-step-indexed-requires : tie.Need-one-step-indexed-requires
 one-step-indexed-requires c κs = search needs
 
 answer-code-requires : tie.Need-answer-code-requires
-answer-code-requires c κs =
-    let a = c .before .before .before .before .before .before .before .before .args in
-    subst Small (sym (c .before .before .one-step-indexed .ensures .0 .says))
-    (one-step-indexed-small (matrix (a .n) (a .m) (a .rho) (a .gamma) (a .list .now)) (a .index .now) (a .received .now) (length (a .word .now)))
+answer-code-requires c κs = subst Small (sym (c .before .before .one-step-indexed .ensures .0 .says)) (one-step-indexed-small _ _ _ _)
 
 same-length : tie.Need-same-length
 same-length c = search needs
