@@ -3,6 +3,7 @@
 --   count-is          == how many rows a column has in it
 --   column-rows       == in it a row stands at a column as often as it has the column
 --   turned-renewed    == the parities of one word turned over where the other differs are those of the other
+--   rows-renewed      == the parities of all rows, written over an array of parities, are those of the word
 --   word-below        == a word has bits below n
 --   failing-places    == the rows that are listed by their parities are the failing checks
 --   failing-odd       == as many parities are 1 as checks fail
@@ -11,24 +12,27 @@
 -- Assumes nothing.
 use mathlib.Core.Path.{_≡_, sym, ap, ap₂, _∙_}
 use mathlib.Core.List.{List}
+use mathlib.Core.Logic.{inl, inr}
 use Prim.Native.Nat.{ℕ, suc, _+_, _*_, _-_, _%_, _≤_, _<_}
-use native.Mathlib.Nat.{mul-comm, mul-zero}
+use native.Mathlib.Nat.{mul-comm, eq-zero-or-pos}
 use native.Mathlib.Numerals.{add-one}
 use native.Mathlib.Omega.{arith}
-use lib.ListN.{length, replicate, length-replicate}
+use lib.ListN.{replicate, length-replicate}
 use Rattle.counting.specs.Paper.Sum.{sumBelow, unequal}
+use Rattle.counting.specs.Paper.Lists.{listed, over}
 use Rattle.counting.specs.Places.{at, among}
 use Rattle.counting.proofs.Sums.{sum-cong, sum-zero, same-ne}
-use Rattle.counting.proofs.Writes.{zeros}
+use Rattle.counting.proofs.Writes.{zeros, over-long, over-rest}
 use Rattle.matrix.specs.Paper.Code.{Matrix, entry, has, weight, Word, fails, failing}
 use Rattle.matrix.specs.Paper.PlainCheck.{Accepted}
 use Rattle.matrix.proofs.Rows.{row-sum}
 use Rattle.matrix.proofs.Linear.{fails-differ}
-use Rattle.matrix_index.specs.Paper.Index.{indexOf, indexSize}
+use Rattle.matrix_index.specs.Paper.Index.{indexOf}
 use Rattle.matrix_index.proofs.Parts.{index-long}
 use Rattle.matrix_index.proofs.Filling.{size-small, size-past}
 use Rattle.matrix_index.proofs.Columns.{index-next, index-most, index-below, index-among}
-use Rattle.syndrome.specs.Places.{Part, Places, PlacesListed}
+use Rattle.syndrome.specs.Places.{rowFails, Places, PlacesListed}
+use Rattle.syndrome.proofs.Parity.{parity-at, parity-bit}
 use Rattle.syndrome.proofs.Lists.{listed-cong, places-sum}
 use Rattle.syndrome_update.specs.Parities.{Bits, BitsBelow, ParitiesTurned, differing, columnRows, listedRows, Columns, Parities, Renewed}
 use Rattle.syndrome_update.proofs.Turns.{turned-bits}
@@ -120,6 +124,27 @@ module _ (H : Matrix) (a : Accepted H) where
             };
             rest = λ i past. omega (arith, u .each i, turned-past i past, k .bits .bit i);
           }
+
+-- the parities of all rows, written over an array of parities
+pub rows-renewed : (H : Matrix) (z : ℕ → ℕ) (p p′ : List ℕ) → H .m ≤ 1023 → Bits p
+    → p′ ≡ over (listed (H .m) (rowFails (H .list) (H .rho) z)) p → Renewed H z p p′
+rows-renewed H z p p′ few b e =
+    record {
+      parities = record {
+        bits = record {
+          long = over-long (H .m) (rowFails (H .list) (H .rho) z) p p′ e (omega (arith, b .long)) ∙ b .long;
+          bit = λ i. elim (eq-zero-or-pos (H .m - i)) [
+            | inl past ↦ omega (arith, rest i (omega arith), b .bit i)
+            | inr h ↦ parity-bit H z p p′ e i (omega arith)
+          ];
+        };
+        each = parity-at H z p p′ e;
+      };
+      rest = rest;
+    }
+  where
+    rest : (i : ℕ) → H .m ≤ i → at p′ i ≡ at p i
+    rest i past = over-rest (H .m) (rowFails (H .list) (H .rho) z) p p′ e 0 i past
 
 -- as many parities are 1 as checks fail
 pub failing-odd : (H : Matrix) (z : ℕ → ℕ) (p : List ℕ) → Parities H z p → sumBelow (H .m) (at p) ≡ failing H z

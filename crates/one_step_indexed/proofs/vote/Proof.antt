@@ -3,16 +3,16 @@ use mathlib.Core.Path.{_≡_, refl, _∙_}
 use mathlib.Core.List.{List}
 use Prim.Native.Nat.{ℕ}
 use native.Mathlib.Omega.{arith}
+use lib.ListN.{replicate}
 use Rattle.counting.specs.Places.{at}
 use Rattle.matrix.specs.Paper.Code.{Matrix, Word, failing}
 use Rattle.matrix.specs.Paper.Shapes.{matrixOf}
 use Rattle.syndrome.proofs.Parity.{checks}
 use Rattle.syndrome_update.specs.Parities.{Parities, Renewed}
-use Rattle.syndrome_update.proofs.KeptParities.{columns, turned-renewed, word-below, failing-odd}
+use Rattle.syndrome_update.proofs.KeptParities.{columns, turned-renewed, rows-renewed, word-below, failing-odd, zero-parities}
 use Rattle.majority_votes.specs.Tallies.{Tallied}
 use Rattle.majority_columns.proofs.Columns.{few-rows, column-tallied}
 use Rattle.one_step_core.proofs.Votes.{stepped-clean, stepped-voted, voted-bits}
-use Rattle.one_step_indexed.proofs.Parities.{rows-parities}
 use borrow.Author.Needs.{needs}
 use Rattle.one_step_indexed.proofs.vote.Statement.{statement}
 use Rattle.one_step_indexed.proofs.vote.Tie as tie
@@ -44,7 +44,8 @@ first-parity r = r .row-parities .last .1 .1 .1 .1 .0
 parities : (r : tie.After-row-parities) → Parities (lent (from-rows r)) (at (word (from-rows r))) (first-parity r)
 parities r =
     let s = from-rows r in
-    rows-parities (lent s) (at (word s)) (first-parity r) (s .pre .0 .sizes .m-most) (r .row-parities .ensures)
+    rows-renewed (lent s) (at (word s)) (replicate 1023 0) (first-parity r) (s .pre .0 .sizes .m-most) (zero-parities (lent s) .bits)
+    (r .row-parities .ensures) .parities
 
 -- as many are 1 as checks fail
 counted : (o : tie.After-count-odd) → o .count-odd .result ≡ failing (lent (from-rows (o .before .before))) (at (word (from-rows (o .before .before))))
