@@ -33,7 +33,7 @@ pub unsafe fn build(h: &Matrix, index: &mut [u16]) {
 }
 
 /// Whether a lent index is the matrix's own: the building replayed, each number compared where it
-/// would be written.
+/// would be written. The fastest form found: no branch within a row, the differences ORed.
 ///
 /// # Safety
 /// The check has accepted the matrix.
@@ -53,6 +53,36 @@ pub unsafe fn is_own(h: &Matrix, index: &[u16]) -> bool {
         }
         if differs != 0 {
             return false;
+        }
+    }
+    true
+}
+
+/// The same replay, as C has it: at the first number that differs it ends.
+///
+/// # Safety
+/// The check has accepted the matrix.
+pub unsafe fn is_own_plain(h: &Matrix, index: &[u16]) -> bool {
+    let places = usize::from(h.n) + 1;
+    if index.len() != places + h.list.len() {
+        return false;
+    }
+    let mut cursors = [0; WIDTH];
+    for j in 0..places {
+        let start = j as u16 * h.gamma;
+        if *index.get_unchecked(j) != start {
+            return false;
+        }
+        *cursors.get_unchecked_mut(j) = start;
+    }
+    let rows = index.get_unchecked(places..);
+    for (i, row) in h.list.chunks_exact(usize::from(h.rho)).enumerate() {
+        for &c in row {
+            let cursor = cursors.get_unchecked_mut(usize::from(c));
+            if *rows.get_unchecked(usize::from(*cursor)) != i as u16 {
+                return false;
+            }
+            *cursor += 1;
         }
     }
     true

@@ -137,45 +137,43 @@ fn measure_iterative(code: &Code, step: f32, deviation: f64, turns: usize) {
     compare(code, "iterative voting", turns, [indexed, without]);
 }
 
-/// The library's time, as that of a call with the part less that of a call without it, and plain
-/// Rust's.
-struct Part {
+/// The library's time, as that of a call with the part less that of a call without it, and those of
+/// the forms in plain Rust.
+struct Part<const FORMS: usize> {
     library: f64,
-    rust: f64,
-}
-
-impl Part {
-    /// From a call with the part, one without it, and plain Rust, taking turns.
-    fn new(turns: usize, forms: [Form; 3]) -> Part {
-        let [with, without, rust] = best_times(turns, forms);
-        let library = with - without;
-        Part { library, rust }
-    }
+    rust: [f64; FORMS],
 }
 
 /// The verifying of a lent index: calls that are refused by 7 right after it.
-fn verifying(code: &Code, own: &[u16], turns: usize) -> Part {
+fn verifying(code: &Code, own: &[u16], turns: usize) -> Part<2> {
     let h = &code.matrix;
     let with = || ffi_face::one_step_indexed(black_box(h).into(), black_box(own), &[], &mut []);
     let without = || ffi_face::one_step(black_box(h).into(), &[], &mut []);
     // SAFETY: the check has accepted the matrix.
-    let replay = || unsafe { index::is_own(black_box(h), black_box(own)) };
+    let fastest = || unsafe { index::is_own(black_box(h), black_box(own)) };
+    // SAFETY: the same.
+    let plain = || unsafe { index::is_own_plain(black_box(h), black_box(own)) };
     assert_eq!([with(), without()], [Packed::new(7 * 65536, 0, 0, 0); 2]);
-    assert!(replay());
+    assert!(fastest() && plain());
     let with = Form::new(1, || {
         black_box(with());
     });
     let without = Form::new(1, || {
         black_box(without());
     });
-    let replay = Form::new(1, || {
-        black_box(replay());
+    let fastest = Form::new(1, || {
+        black_box(fastest());
     });
-    Part::new(turns, [with, without, replay])
+    let plain = Form::new(1, || {
+        black_box(plain());
+    });
+    let [with, without, rust @ ..] = best_times(turns, [with, without, fastest, plain]);
+    let library = with - without;
+    Part { library, rust }
 }
 
 /// The building: the call less the matrix check, which it begins with.
-fn building(code: &Code, own: &[u16], turns: usize) -> Part {
+fn building(code: &Code, own: &[u16], turns: usize) -> Part<1> {
     let h = &code.matrix;
     let (mut to, mut other) = (vec![0; own.len()], vec![0; own.len()]);
     assert_eq!(ffi_face::index(h.into(), &mut to), Packed(0));
@@ -192,7 +190,9 @@ fn building(code: &Code, own: &[u16], turns: usize) -> Part {
         // SAFETY: as above.
         unsafe { index::build(black_box(h), black_box(&mut other)) };
     });
-    Part::new(turns, [with, without, rust])
+    let [with, without, rust @ ..] = best_times(turns, [with, without, rust]);
+    let library = with - without;
+    Part { library, rust }
 }
 
 fn measure_parts(code: &Code, turns: usize) {
@@ -203,17 +203,16 @@ fn measure_parts(code: &Code, turns: usize) {
         assert!(index_of(black_box(&code.matrix)) == own);
     });
     let [literal] = best_times(LITERAL_TURNS, [literal]);
+    let ([fastest, plain], [rust]) = (verified.rust, built.rust);
     println!(
-        "| {} | {:.2} | {:.2} | {:.0} | {:.2} | {:.2} | {:.2} | {:.2} | {:.1} |",
+        "| {} | {:.2} | {:.2} | {:.2} | {:.0} | {:.2} | {fastest:.2} | {plain:.2} | {:.2} | {rust:.2} | {literal:.1} |",
         code.name,
-        verified.library / verified.rust,
-        built.library / built.rust,
-        literal / verified.rust,
+        verified.library / fastest,
+        verified.library / plain,
+        built.library / rust,
+        literal / fastest,
         verified.library,
-        verified.rust,
         built.library,
-        built.rust,
-        literal,
     );
 }
 
@@ -236,13 +235,15 @@ pub fn measure(turns: usize) {
         "The parts alone. Verifying: one-step voting that is refused by 7, lent the own index, less the \
          same without an index. Building: the call less the matrix check. In plain Rust, no bounds \
          checks: a cursor for each column and the rows walked once, each number compared (the replay) \
-         or written. The three of each part take turns, and the best of {turns} turns of each counts. \
-         Literal: all rows searched for each column and the lists compared, the best of \
+         or written. Fastest replay: no branch within a row, the differences ORed and looked at after \
+         it. Plain replay: as C has it, each number compared by a branch that ends the replay at the \
+         first difference. The forms of each part take turns, and the best of {turns} turns of each \
+         counts. Literal: all rows searched for each column and the lists compared, the best of \
          {LITERAL_TURNS}."
     );
     println!();
-    println!("| code | verifying / replay | building / Rust | literal / replay | verifying µs | replay µs | building µs | Rust µs | literal µs |");
-    println!("|---|---|---|---|---|---|---|---|---|");
+    println!("| code | verifying / fastest replay | verifying / plain replay | building / Rust | literal / fastest replay | verifying µs | fastest replay µs | plain replay µs | building µs | Rust µs | literal µs |");
+    println!("|---|---|---|---|---|---|---|---|---|---|---|");
     for (code, _, _) in cases() {
         measure_parts(&code, turns);
     }

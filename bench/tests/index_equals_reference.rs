@@ -3,7 +3,7 @@
 use bench::index;
 use generator::codes;
 use generator::Random;
-use reference::index_of;
+use reference::{index_of, Matrix};
 
 #[test]
 fn built() {
@@ -17,13 +17,16 @@ fn built() {
     }
 }
 
-#[test]
-fn found_to_be_the_own_one() {
+/// A form that finds whether an index is the matrix's own.
+type Finder = unsafe fn(&Matrix, &[u16]) -> bool;
+
+/// The form finds the own index to be it, and no index of another length or with a number changed.
+fn finds_the_own_one(form: Finder) {
     let mut random = Random::new(13);
     for code in codes::all() {
         let own = index_of(&code.matrix);
         // SAFETY: the generated codes are accepted.
-        let is_own = |index: &[u16]| unsafe { index::is_own(&code.matrix, index) };
+        let is_own = |index: &[u16]| unsafe { form(&code.matrix, index) };
         assert!(is_own(&own), "{}", code.name);
         assert!(!is_own(&own[1..]) && !is_own(&[&own[..], &[0]].concat()));
         let n = usize::from(code.matrix.n);
@@ -37,4 +40,14 @@ fn found_to_be_the_own_one() {
             }
         }
     }
+}
+
+#[test]
+fn found_to_be_the_own_one() {
+    finds_the_own_one(index::is_own);
+}
+
+#[test]
+fn found_to_be_the_own_one_as_in_c() {
+    finds_the_own_one(index::is_own_plain);
 }
