@@ -17,7 +17,7 @@ use lib.Dec.{ltb}
 use lib.IntN.{ℤ}
 use lib.Ieee.{Float}
 use lib.ListN.{length}
-use Rattle.answers.specs.Paper.Answers.{Verdict, accepted, refused, andThen, Said, refusal, after, written, wrongLengths}
+use Rattle.answers.specs.Paper.Answers.{Verdict, accepted, refused, Said, refusal, after, written, wrongLengths}
 use Rattle.packed_word.specs.Paper.Packed.{bytesFor}
 use Rattle.matrix.specs.Paper.Code.{Matrix}
 use Rattle.matrix.specs.Paper.Check.{checkOf}

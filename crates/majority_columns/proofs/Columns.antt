@@ -9,17 +9,17 @@
 use mathlib.Core.Path.{_≡_, refl, sym, ap, _∙_}
 use mathlib.Core.List.{List}
 use Prim.Native.Nat.{ℕ, suc, _+_, _*_, _-_, _≤_, _<_}
-use native.Mathlib.Nat.{mul-comm, zero-mul}
+use native.Mathlib.Nat.{zero-mul}
 use native.Mathlib.Numerals.{add-one}
 use native.Mathlib.Decide.{decLt}
 use native.Mathlib.Omega.{arith}
-use lib.ListN.{length, replicate, length-replicate}
+use lib.ListN.{replicate, length-replicate}
 use Rattle.counting.specs.Paper.Sum.{sumBelow, same}
 use Rattle.counting.specs.Paper.Lists.{listed, over}
 use Rattle.counting.specs.Places.{at, among}
 use Rattle.counting.proofs.Sums.{sum-cong, sum-zero, sum-bound, sum-swap, sum-pick, sum-mul-right}
 use Rattle.counting.proofs.Writes.{zeros, over-long, over-at, over-rest}
-use Rattle.matrix.specs.Paper.Code.{Matrix, has, weight, fails, failing}
+use Rattle.matrix.specs.Paper.Code.{Matrix, has, fails, failing}
 use Rattle.matrix.specs.Paper.PlainCheck.{Accepted}
 use Rattle.matrix.proofs.Rows.{has-outside}
 use Rattle.matrix.proofs.Weights.{weight-small}

@@ -15,7 +15,7 @@
 --   Spot            == the next place of the list, its column, and the place of the row there
 --   spot-of         == the next entry has its spot
 -- Assumes nothing.
-use mathlib.Core.Path.{_≡_, refl, sym, ap, _∙_}
+use mathlib.Core.Path.{_≡_, refl, sym, _∙_}
 use mathlib.Core.List.{List}
 use mathlib.Core.Logic.{inl, inr}
 use Prim.Native.Nat.{ℕ, suc, _+_, _*_, _≤_, _<_}
@@ -24,12 +24,12 @@ use native.Mathlib.Numerals.{add-one}
 use native.Mathlib.Omega.{arith}
 use lib.ListN.{length, set, replicate, length-set, length-replicate}
 use lib.Seq.{getD-set-other}
-use Rattle.counting.specs.Paper.Sum.{sumBelow, same}
+use Rattle.counting.specs.Paper.Sum.{sumBelow}
 use Rattle.counting.specs.Paper.Lists.{listed, over}
 use Rattle.counting.specs.Places.{at}
-use Rattle.counting.proofs.Sums.{sum-cong, sum-const, sum-zero, sum-next, same-refl, same-ne}
+use Rattle.counting.proofs.Sums.{sum-cong, sum-const, sum-zero, same-refl, same-ne}
 use Rattle.counting.proofs.Writes.{stored, over-long, over-at}
-use Rattle.matrix.specs.Paper.Code.{Matrix, entry, has, weight}
+use Rattle.matrix.specs.Paper.Code.{Matrix, entry, has}
 use Rattle.matrix.specs.Paper.PlainCheck.{Accepted}
 use Rattle.matrix.proofs.Rows.{few-entries, in-list, ascends}
 use Rattle.matrix.proofs.Weights.{weight-equal}

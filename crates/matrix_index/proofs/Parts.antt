@@ -1,9 +1,13 @@
 -- Laws of the index of a matrix: its length, its starting places, and where each row stands.
 --   length-rows    == the rows of a column before row i are as many as the column's ones there
+--   before-all     == a column's ones before the last row's end are its weight
+--   before-next    == a row's ones come on top of those before it
+--   rows-at        == a row that has the column stands behind those before it
 --   has-entry      == a row has its own columns
 --   index-long     == the index has n + 1 + m * rho numbers
 --   index-start    == its first numbers are the starting places
 --   index-rows     == behind them stand the rows of each column
+--   start-next     == where a column's part ends
 --   index-row      == row i stands at its place in each of its columns
 --   place-past     == that place lies behind the starting places
 --   place-inside   == and in the index
@@ -12,7 +16,6 @@
 -- Assumes nothing.
 use mathlib.Core.Path.{_≡_, refl, sym, ap, _∙_}
 use mathlib.Core.List.{List, _++_}
-use mathlib.Core.Logic.{inl, inr}
 use Prim.Native.Nat.{ℕ, zero, suc, _+_, _*_, _-_, _≤_, _<_}
 use native.Mathlib.Nat.{not-suc-le-zero}
 use native.Mathlib.Decide.{ℕ-discrete}

@@ -9,7 +9,7 @@
 --   Parities H z p           == p holds the parity of each check of the word z
 --   Renewed H z p p′         == p becomes p′, the parities of the word z; the cells past the checks stay
 -- Assumes nothing.
-use Prim.Native.Nat.{ℕ, suc, _+_, _-_, _%_, _≤_, _<_}
+use Prim.Native.Nat.{ℕ, _+_, _-_, _%_, _≤_, _<_}
 use mathlib.Core.Path.{_≡_}
 use mathlib.Core.List.{List}
 use lib.ListN.{length}

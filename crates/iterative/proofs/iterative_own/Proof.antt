@@ -46,7 +46,8 @@ returns c =
     let t = r .before .before .before in
     let k = t .before .before in
     let s = asked k in
-    answered-decoded (lent-matrix s) _ _ _ _ (s .pre .0) _ _ _ (sym (k .ask-samples .ensures) ∙ ap verdictOf (t .enum-told .given .1)) (r .iterative-accepted .ensures)
+    answered-decoded (lent-matrix s) _ _ _ _ (s .pre .0) _ _ _ (sym (k .ask-samples .ensures) ∙ ap verdictOf (t .enum-told .given .1))
+    (r .iterative-accepted .ensures)
 
 returns-2 : tie.Need-returns-2
 returns-2 c =

@@ -1,7 +1,6 @@
 -- `iterative::with_index`: the front of the array is the index of the matrix. Assumes nothing.
 use mathlib.Core.Path.{sym, ap, _∙_}
-use native.Mathlib.Omega.{arith}
-use lib.ListN.{length, length-replicate}
+use lib.ListN.{length}
 use Rattle.matrix.specs.Paper.Code.{Matrix}
 use Rattle.matrix.specs.Paper.Shapes.{matrixOf}
 use Rattle.matrix_index.proofs.Parts.{index-long}
@@ -39,7 +38,9 @@ build-requires : tie.Need-build-requires
 build-requires c κs = let s = c .before .before .before .before .before .before .before in (s .pre, size-small (lent s) (s .pre))
 
 array-share-prefix-index : tie.Need-array-share-prefix-index
-array-share-prefix-index c = let s = c .before .before .before .before .before .before .before .before .before in index-fits (lent s) (s .pre) _ _ (c .before .build .ensures) (size-small (lent s) (s .pre))
+array-share-prefix-index c =
+    let s = c .before .before .before .before .before .before .before .before .before in
+    index-fits (lent s) (s .pre) _ _ (c .before .build .ensures) (size-small (lent s) (s .pre))
 
 slice-aggregate-iterative-own : tie.Need-slice-aggregate-iterative-own
 slice-aggregate-iterative-own c =
@@ -47,7 +48,9 @@ slice-aggregate-iterative-own c =
     size-is (lent s) ∙ sym (ap length (index-front (lent s) (s .pre) _ _ (c .before .before .build .ensures)) ∙ index-long (lent s) (s .pre .rows))
 
 iterative-own-requires : tie.Need-iterative-own-requires
-iterative-own-requires c κs = let s = c .before .before .before .before .before .before .before .before .before .before .before .before in (s .pre, index-front (lent s) (s .pre) _ _ (c .before .before .before .before .build .ensures))
+iterative-own-requires c κs =
+    let s = c .before .before .before .before .before .before .before .before .before .before .before .before in
+    (s .pre, index-front (lent s) (s .pre) _ _ (c .before .before .before .before .build .ensures))
 
 same-length : tie.Need-same-length
 same-length c = search needs

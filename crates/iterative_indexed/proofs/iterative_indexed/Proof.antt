@@ -50,7 +50,8 @@ returns-2 c =
     let k = c .before .before .before in
     let s = start k in
     let f = c .before .f .given in
-    let e = refused-matrix (lent s) (s .args .index .now) _ _ _ _ (numberOf (f .0 .0)) (placeOf (f .0 .0)) _ (sym (k .check .ensures) ∙ ap verdictOf (f .1)) refl in
+    let e = refused-matrix (lent s) (s .args .index .now) _ _ _ _ (numberOf (f .0 .0)) (placeOf (f .0 .0)) _
+    (sym (k .check .ensures) ∙ ap verdictOf (f .1)) refl in
     (e, λ own. answered-alike (lent s) (s .args .index .now) _ _ _ _ _ _ _ own e)
 
 pub iterative-indexed-spec : {M : Type 1} → statement M

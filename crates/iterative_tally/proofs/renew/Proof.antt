@@ -24,14 +24,21 @@ cast-rho c = search needs
 
 list-flips-requires : tie.Need-list-flips-requires
 list-flips-requires c κs =
-    let s = c .before .before .before .before .before .before in
-    (s .pre .0 .0 .sizes .n-most, word-below (lent s) (s .args .before .now) (s .pre .1 .0), word-below (lent s) (s .args .bits .now) (s .pre .1 .1), omega arith)
+    let s = c .before .before .before .before .before .before in (
+      s .pre .0 .0 .sizes .n-most,
+      word-below (lent s) (s .args .before .now) (s .pre .1 .0),
+      word-below (lent s) (s .args .bits .now)
+          (s .pre .1 .1),
+      omega arith,
+    )
 
 mul-if1 : tie.Need-mul-if1
 mul-if1 c = search needs
 
 row-parities-requires : tie.Need-row-parities-requires
-row-parities-requires c κs = let s = c .before .before .before .before .before .before .before .before .before in (checks (lent s) (s .pre .0 .0) (at (s .args .bits .now)) (s .pre .1 .1), s .pre .1 .2 .bits .long)
+row-parities-requires c κs =
+    let s = c .before .before .before .before .before .before .before .before .before in
+    (checks (lent s) (s .pre .0 .0) (at (s .args .bits .now)) (s .pre .1 .1), s .pre .1 .2 .bits .long)
 
 returns : tie.Need-returns
 returns c =

@@ -26,7 +26,13 @@ slice-write-votes : tie.Need-slice-write-votes Inv-loop μ-loop
 slice-write-votes c =
     let s = c .before .before .before .before .before in
     let o = c .before .before .loop in
-    omega (arith, s .pre .0 .few, s .pre .3, over-long (o .j) (columnVotes (s .args .index .now) (s .args .n) (at (s .args .parity .now))) (s .args .votes .now) (o .votes) (o .inv .1) (omega (arith, s .pre .0 .few, s .pre .3)))
+    omega (
+      arith,
+      s .pre .0 .few,
+      s .pre .3,
+      over-long (o .j) (columnVotes (s .args .index .now) (s .args .n) (at (s .args .parity .now)))
+          (s .args .votes .now) (o .votes) (o .inv .1) (omega (arith, s .pre .0 .few, s .pre .3)),
+    )
 
 add-j : tie.Need-add-j Inv-loop μ-loop
 add-j c = omega (arith, c .before .before .before .before .before .pre .0 .few)
@@ -47,7 +53,8 @@ same-length : tie.Need-same-length Inv-loop μ-loop
 same-length c =
     let s = c .before .before .before .before in
     let o = c .before .loop in
-    over-long (o .j) (columnVotes (s .args .index .now) (s .args .n) (at (s .args .parity .now))) (s .args .votes .now) (o .votes) (o .inv .1) (omega (arith, s .pre .0 .few, s .pre .3))
+    over-long (o .j) (columnVotes (s .args .index .now) (s .args .n) (at (s .args .parity .now))) (s .args .votes .now) (o .votes) (o .inv .1)
+    (omega (arith, s .pre .0 .few, s .pre .3))
 
 returns : tie.Need-returns Inv-loop μ-loop
 returns c = rw (le-antisymm (c .before .loop .inv .0) (omega arith)) at (c .before .loop .inv .1)

@@ -1,12 +1,10 @@
 -- `matrix_index::build`. The loop's invariant: the rows before row i are written over the starting places, and the cursors stand behind them.
 use Prim.Native.Nat.{_-_, _≤_}
-use mathlib.Core.Path.{_≡_, refl, sym, ap, _∙_}
+use mathlib.Core.Path.{_≡_, refl, sym}
 use native.Mathlib.Nat.{le-antisymm}
 use native.Mathlib.Omega.{arith}
-use lib.ListN.{length, replicate, length-replicate}
-use Rattle.counting.specs.Paper.Lists.{listed, over}
 use Rattle.matrix.specs.Paper.Shapes.{matrixOf}
-use Rattle.matrix_index.specs.Filling.{startBy, Cursors, rowsPut}
+use Rattle.matrix_index.specs.Filling.{Cursors, rowsPut}
 use Rattle.matrix_index.proofs.Cursors.{cursors-none}
 use Rattle.matrix_index.proofs.Filling.{puts-none, puts-next, puts-room, rows-done, size-past}
 use Rattle.matrix_index.proofs.build.Statement.{statement}
@@ -18,6 +16,10 @@ Inv-loop shape list index₀ n m gamma cursors₀ i₀ index cursors i =
 
 abbrev μ-loop : tie.MeasureT-loop
 μ-loop shape list index₀ n m gamma cursors₀ i₀ index cursors i = m - i
+
+-- the call as it starts, from inside the loop
+abbrev from-loop : tie.In-loop Inv-loop μ-loop → tie.Start Inv-loop μ-loop
+from-loop c = c .before .before .before .before .before .before .before .before .before .before .before .before .before .before
 
 cast-n : tie.Need-cast-n Inv-loop μ-loop
 cast-n c = omega (arith, c .before .before .before .pre .0 .sizes .n-most)
@@ -41,13 +43,21 @@ add-put-starts c = omega (arith, c .before .before .before .before .before .befo
 
 put-starts-requires-2 : tie.Need-put-starts-requires-2 Inv-loop μ-loop
 put-starts-requires-2 c κs =
-    let s = c .before .before .before .before .before .before .before .before .before in
-    (omega (arith, s .pre .0 .sizes .n-most), s .pre .0 .sizes .gamma-most, omega (arith, s .pre .1, size-past (matrixOf (s .args .shape) (s .args .list .now)) (s .pre .0)))
+    let s = c .before .before .before .before .before .before .before .before .before in (
+      omega (arith, s .pre .0 .sizes .n-most),
+      s .pre .0 .sizes .gamma-most,
+      omega
+          (arith, s .pre .1, size-past (matrixOf (s .args .shape) (s .args .list .now)) (s .pre .0)),
+    )
 
 loop-holds : tie.Need-loop-holds Inv-loop μ-loop
 loop-holds c =
-    let s = c .before .before .before .before .before .before .before .before .before .before .before .before in
-    (omega arith, cursors-none (matrixOf (s .args .shape) (s .args .list .now)) (s .pre .0) _ (c .before .before .before .before .before .put-starts .ensures), puts-none (matrixOf (s .args .shape) (s .args .list .now)) _)
+    let s = c .before .before .before .before .before .before .before .before .before .before .before .before in (
+      omega arith,
+      cursors-none (matrixOf (s .args .shape) (s .args .list .now)) (s .pre .0) _
+          (c .before .before .before .before .before .put-starts .ensures),
+      puts-none (matrixOf (s .args .shape) (s .args .list .now)) _,
+    )
 
 slice-aggregate-place-row : tie.Need-slice-aggregate-place-row Inv-loop μ-loop
 slice-aggregate-place-row c = sym (c .before .before .loop .inv .1 .long)
@@ -55,18 +65,28 @@ slice-aggregate-place-row c = sym (c .before .before .loop .inv .1 .long)
 place-row-requires : tie.Need-place-row-requires Inv-loop μ-loop
 place-row-requires c κs =
     let s = c .before .before .before .before .before .before .before .before .before .before .before .before .before .before .before .before in
-    let l = c .before .before .before .loop in
-    (s .pre .0, omega arith, l .inv .1, omega (arith, s .pre .1, puts-room (matrixOf (s .args .shape) (s .args .list .now)) (s .pre .0) (s .args .index .now) (s .pre .1) (l .i) _ (l .index) (c .before .before .before .before .before .before .put-starts2 .ensures) (l .inv .2)))
+    let l = c .before .before .before .loop in (
+      s .pre .0,
+      omega arith,
+      l .inv .1,
+      omega (
+        arith,
+        s .pre .1,
+        puts-room (matrixOf (s .args .shape) (s .args .list .now)) (s .pre .0) (s .args .index .now) (s .pre .1) (l .i) _ (l .index)
+            (c .before .before .before .before .before .before .put-starts2 .ensures) (l .inv .2),
+      ),
+    )
 
 add-i : tie.Need-add-i Inv-loop μ-loop
-add-i c = omega (arith, c .before .before .before .before .before .before .before .before .before .before .before .before .before .before .before .before .before .before .before .before .pre .0 .sizes .m-most)
+add-i c =
+    omega (arith, from-loop (c .before .before .before .before .before .before) .pre .0 .sizes .m-most)
 
 loop-less : tie.Need-loop-less Inv-loop μ-loop
 loop-less c = omega arith
 
 loop-again : tie.Need-loop-again Inv-loop μ-loop
 loop-again c =
-    let s = c .before .before .before .before .before .before .before .before .before .before .before .before .before .before .before .before .before .before .before .before in
+    let s = from-loop (c .before .before .before .before .before .before) in
     let l = c .before .before .before .before .before .before .before .loop in
     let p = c .before .before .before .place-row .ensures in
     (omega arith, p .0 .cursors, puts-next (matrixOf (s .args .shape) (s .args .list .now)) (l .i) _ (l .index) _ (l .inv .2) (p .1))

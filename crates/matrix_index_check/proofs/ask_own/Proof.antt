@@ -1,7 +1,4 @@
 -- `matrix_index_check::ask_own`: refusal 10 where the comparison fails.
-use mathlib.Core.Path.{sym, ap, _∙_}
-use mathlib.Core.Bool.{Bool, not}
-use Rattle.answers.specs.Paper.Answers.{accepted, refuseIf}
 use Rattle.matrix.specs.Paper.Shapes.{matrixOf}
 use Rattle.matrix_index_check.proofs.Answers.{own-verdict}
 use borrow.Author.Needs.{needs}
@@ -17,7 +14,8 @@ refused-when-requires c κs = search needs
 returns : tie.Need-returns
 returns c =
     let s = c .before .before .before .before in
-    own-verdict (matrixOf (s .args .shape) (s .args .list .now)) (s .args .index .now) _ (c .before .is-own .result) (c .refused-when .ensures) (c .before .is-own .ensures)
+    own-verdict (matrixOf (s .args .shape) (s .args .list .now)) (s .args .index .now) _ (c .before .is-own .result) (c .refused-when .ensures)
+    (c .before .is-own .ensures)
 
 pub ask-own-spec : {M : Type 1} → statement M
 ask-own-spec = tie.close (tie.spec is-own-requires refused-when-requires returns)

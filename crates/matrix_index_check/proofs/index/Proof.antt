@@ -34,7 +34,8 @@ returns-2 c =
     let k = c .before .before .before in
     let a = c .before .before .before .before .before .before .args in
     let f = c .before .f .given in
-    refused-matrix (matrixOf (a .shape) (a .list .now)) (a .index .now) (numberOf (f .0 .0)) (placeOf (f .0 .0)) _ (sym (k .check .ensures) ∙ ap verdictOf (f .1)) refl
+    refused-matrix (matrixOf (a .shape) (a .list .now)) (a .index .now) (numberOf (f .0 .0)) (placeOf (f .0 .0)) _
+    (sym (k .check .ensures) ∙ ap verdictOf (f .1)) refl
 
 pub index-spec : {M : Type 1} → statement M
 index-spec =

@@ -1,7 +1,5 @@
 -- `matrix_index_check::is_own`: a list of another length, with a wrong starting place or with a wrong row number is not the index.
-use mathlib.Core.Path.{_≡_, sym, ap, _∙_}
-use mathlib.Core.List.{List}
-use Prim.Native.Nat.{ℕ}
+use mathlib.Core.Path.{ap}
 use native.Mathlib.Omega.{arith}
 use lib.ListN.{length}
 use Rattle.matrix.specs.Paper.Code.{Matrix}

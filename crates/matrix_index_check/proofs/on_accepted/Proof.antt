@@ -46,7 +46,8 @@ same-length c = search needs
 returns-2 : tie.Need-returns-2
 returns-2 c =
     let s = c .before .before .before .before .before .before .before .before .before .before in
-    built (lent s) (s .args .index .now) (s .pre) (c .before .before .build .last .1 .1 .0) (omega (arith, size-is (lent s))) (c .before .before .build .ensures)
+    built (lent s) (s .args .index .now) (s .pre) (c .before .before .build .last .1 .1 .0) (omega (arith, size-is (lent s)))
+    (c .before .before .build .ensures)
 
 pub on-accepted-spec : {M : Type 1} → statement M
 on-accepted-spec =

@@ -27,7 +27,8 @@ lent s = matrixOf (s .args .shape) (s .args .list .now)
 
 -- where the next entry goes, once there is one
 spot : (c : tie.In-loop Inv-loop μ-loop)
-    → Spot (lent (c .before .before .before .before .before .before)) (c .before .before .before .before .before .before .args .i) (c .before .loop .k) (c .before .loop .cursors)
+    → Spot (lent (c .before .before .before .before .before .before)) (c .before .before .before .before .before .before .args .i) (c .before .loop .k)
+    (c .before .loop .cursors)
 spot c =
     let s = c .before .before .before .before .before .before in
     let l = c .before .loop in
@@ -72,13 +73,17 @@ cast-c : tie.Need-cast-c Inv-loop μ-loop
 cast-c c = omega (arith, spot (c .before .before .before) .low)
 
 add-differs : tie.Need-add-differs Inv-loop μ-loop
-add-differs c = omega (arith, spot (c .before .before .before) .low, c .before .before .before .before .before .before .before .before .before .pre .0 .sizes .n-most)
+add-differs c =
+    omega (arith, spot (c .before .before .before) .low, c .before .before .before .before .before .before .before .before .before .pre .0 .sizes .n-most)
 
 mul-differs : tie.Need-mul-differs Inv-loop μ-loop
-mul-differs c = omega (arith, spot (c .before .before .before) .low, c .before .before .before .before .before .before .before .before .before .pre .0 .sizes .n-most)
+mul-differs c =
+    omega (arith, spot (c .before .before .before) .low, c .before .before .before .before .before .before .before .before .before .pre .0 .sizes .n-most)
 
 shared-slice-read-differs : tie.Need-shared-slice-read-differs Inv-loop μ-loop
-shared-slice-read-differs c = let s = c .before .before .before .before .before .before .before .before .before .before in omega (arith, spot (c .before .before .before .before) .inside, s .pre .3)
+shared-slice-read-differs c =
+    let s = c .before .before .before .before .before .before .before .before .before .before in
+    omega (arith, spot (c .before .before .before .before) .inside, s .pre .3)
 
 cast-differs : tie.Need-cast-differs Inv-loop μ-loop
 cast-differs c = let s = c .before .before .before .before .before .before .before .before .before .before in omega (arith, s .pre .1, s .pre .0 .sizes .m-most)
@@ -95,7 +100,8 @@ add-wrong c =
       l .inv .2,
       row-most (lent s) (s .args .i) (s .args .index .now) (l .k),
       c .differs .ensures,
-      differ-le (at (s .args .index .now) (s .args .shape .n + 1 + at (l .cursors) (at (s .args .list .now) (s .args .i * s .args .shape .rho + l .k)))) (s .args .i),
+      differ-le (at (s .args .index .now) (s .args .shape .n + 1 + at (l .cursors) (at (s .args .list .now) (s .args .i * s .args .shape .rho + l .k))))
+          (s .args .i),
       s .pre .0 .sizes .rho-most,
     )
 
@@ -109,7 +115,8 @@ mul-cursors : tie.Need-mul-cursors Inv-loop μ-loop
 mul-cursors c = omega (arith, spot (c .before .before .before .before .before) .column)
 
 slice-write-cursors : tie.Need-slice-write-cursors Inv-loop μ-loop
-slice-write-cursors c = omega (arith, spot (c .before .before .before .before .before) .column, c .before .before .before .before .before .before .loop .inv .1 .cursors .long)
+slice-write-cursors c =
+    omega (arith, spot (c .before .before .before .before .before) .column, c .before .before .before .before .before .before .loop .inv .1 .cursors .long)
 
 add-k : tie.Need-add-k Inv-loop μ-loop
 add-k c = omega (arith, c .before .before .before .before .before .before .before .before .before .before .before .pre .0 .sizes .rho-most)
@@ -123,7 +130,8 @@ loop-again c =
     let l = c .before .before .before .before .before .before .loop in (
       omega arith,
       passed-step (lent s) (s .pre .0) (s .args .i) (s .pre .1) (l .k) (s .args .cursors .now) (l .cursors) (omega arith) (l .inv .1),
-      row-step (lent s) (s .args .i) (s .args .index .now) (l .k) (l .wrong) (c .differs .result) _ (reached _ _ (spot (c .before .before .before .before .before) .cursor)) (l .inv .2)
+      row-step (lent s) (s .args .i) (s .args .index .now) (l .k) (l .wrong) (c .differs .result) _
+          (reached _ _ (spot (c .before .before .before .before .before) .cursor)) (l .inv .2)
           (c .differs .ensures),
     )
 

@@ -49,7 +49,9 @@ slice-aggregate-row-wrong : tie.Need-slice-aggregate-row-wrong Inv-loop μ-loop
 slice-aggregate-row-wrong c = sym (c .before .before .loop .inv .1 .long)
 
 row-wrong-requires : tie.Need-row-wrong-requires Inv-loop μ-loop
-row-wrong-requires c κs = let s = c .before .before .before .before .before .before .before .before .before .before .before in (s .pre .0, omega arith, c .before .before .loop .inv .1, s .pre .1)
+row-wrong-requires c κs =
+    let s = c .before .before .before .before .before .before .before .before .before .before .before in
+    (s .pre .0, omega arith, c .before .before .loop .inv .1, s .pre .1)
 
 add-wrong : tie.Need-add-wrong Inv-loop μ-loop
 add-wrong c =

@@ -29,8 +29,11 @@ one-step-own-requires : tie.Need-one-step-own-requires
 one-step-own-requires c κs =
     let t = c .before in
     let k = t .before .before in
-    let s = start k in
-    (word-lent (lent s) (s .pre .0) (s .args .received .now) (s .args .word .now) (sym (k .ask-word .ensures) ∙ ap verdictOf (t .enum-told .given .1)), s .pre .1)
+    let s = start k in (
+      word-lent (lent s) (s .pre .0) (s .args .received .now) (s .args .word .now)
+          (sym (k .ask-word .ensures) ∙ ap verdictOf (t .enum-told .given .1)),
+      s .pre .1,
+    )
 
 enum-known-asked : tie.Need-enum-known-asked
 enum-known-asked c = search needs

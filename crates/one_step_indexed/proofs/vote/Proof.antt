@@ -28,14 +28,26 @@ word s = s .args .bits .now
 abbrev from-rows : tie.After-row-parities → tie.Start
 from-rows r = r .before .before .before .before .before .before .before .before
 
+abbrev rows-of : tie.After-tally-columns → tie.After-row-parities
+rows-of t = t .before .before .before .before .before .before
+
+abbrev count-of : tie.After-tally-columns → tie.After-count-odd
+count-of t = t .before .before .before .before
+
 abbrev from-votes : tie.After-tally-columns → tie.Start
-from-votes t = from-rows (t .before .before .before .before .before .before)
+from-votes t = from-rows (rows-of t)
+
+abbrev votes-of : tie.After-flip-all → tie.After-tally-columns
+votes-of f = f .before .before .before .before .before
 
 abbrev from-flips : tie.After-flip-all → tie.Start
-from-flips f = from-votes (f .before .before .before .before .before)
+from-flips f = from-votes (votes-of f)
+
+abbrev flips-of : tie.After-turn-listed → tie.After-flip-all
+flips-of t = t .before .before .before .before .before .before .before .before
 
 abbrev from-turns : tie.After-turn-listed → tie.Start
-from-turns t = from-flips (t .before .before .before .before .before .before .before .before)
+from-turns t = from-flips (flips-of t)
 
 -- the parities of the received word
 abbrev first-parity : tie.After-row-parities → List ℕ
@@ -55,12 +67,12 @@ counted o = o .count-odd .ensures ∙ failing-odd (lent (from-rows (o .before .b
 abbrev votes : tie.After-tally-columns → List ℕ
 votes t = t .tally-columns .last .1 .1 .1 .0
 
-tallied : (t : tie.After-tally-columns) → Tallied (lent (from-votes t)) (at (word (from-votes t))) (votes t) (t .before .before .before .before .count-odd .result)
+tallied : (t : tie.After-tally-columns)
+    → Tallied (lent (from-votes t)) (at (word (from-votes t))) (votes t) (count-of t .count-odd .result)
 tallied t =
     let s = from-votes t in
-    let r = t .before .before .before .before .before .before in
-    column-tallied (lent s) (s .pre .0) (s .args .index .now) (s .pre .1) (at (word s)) (first-parity r) (parities r) (votes t) (t .before .before .before .before .count-odd .result)
-    (t .tally-columns .ensures) (counted (t .before .before .before .before))
+    column-tallied (lent s) (s .pre .0) (s .args .index .now) (s .pre .1) (at (word s)) (first-parity (rows-of t)) (parities (rows-of t)) (votes t)
+    (count-of t .count-odd .result) (t .tally-columns .ensures) (counted (count-of t))
 
 -- the word after the flips
 abbrev flipped : tie.After-flip-all → List ℕ
@@ -69,19 +81,25 @@ flipped f = f .flip-all .last .1 .1 .0
 flipped-word : (f : tie.After-flip-all) → Word (lent (from-flips f)) (at (flipped f))
 flipped-word f =
     let s = from-flips f in
-    let t = f .before .before .before .before .before in
-    voted-bits (lent s) (s .pre .0) (word s) (votes t) (t .before .before .before .before .count-odd .result) (tallied t) (flipped f) (f .flip-all .ensures) (s .pre .2)
+    let t = votes-of f in
+    voted-bits (lent s) (s .pre .0) (word s) (votes t) (count-of t .count-odd .result) (tallied t) (flipped f) (f .flip-all .ensures) (s .pre .2)
 
 -- its parities
 abbrev last-parity : tie.After-turn-listed → List ℕ
 last-parity t = t .turn-listed .last .1 .1 .1 .1 .0
 
-renewed : (t : tie.After-turn-listed) → Renewed (lent (from-turns t)) (at (flipped (t .before .before .before .before .before .before .before .before))) (first-parity (t .before .before .before .before .before .before .before .before .before .before .before .before .before .before .before .before .before .before .before)) (last-parity t)
+-- those of the received word, as they are turned over
+abbrev turned : tie.After-turn-listed → tie.After-row-parities
+turned t = rows-of (votes-of (flips-of t))
+
+renewed : (t : tie.After-turn-listed)
+    → Renewed (lent (from-turns t)) (at (flipped (flips-of t))) (first-parity (turned t)) (last-parity t)
 renewed t =
     let s = from-turns t in
+    let f = flips-of t in
     let l = t .before .before .before .before .list-flips in
-    turned-renewed (lent s) (s .pre .0) (s .args .index .now) (s .pre .1) (at (word s)) (at (flipped (t .before .before .before .before .before .before .before .before))) (s .pre .2) (flipped-word (t .before .before .before .before .before .before .before .before))
-    (l .last .1 .1 .1 .0) (l .result) (l .ensures .places) (first-parity (t .before .before .before .before .before .before .before .before .before .before .before .before .before .before .before .before .before .before .before)) (last-parity t) (parities (t .before .before .before .before .before .before .before .before .before .before .before .before .before .before .before .before .before .before .before)) (t .turn-listed .ensures)
+    turned-renewed (lent s) (s .pre .0) (s .args .index .now) (s .pre .1) (at (word s)) (at (flipped f)) (s .pre .2) (flipped-word f)
+    (l .last .1 .1 .1 .0) (l .result) (l .ensures .places) (first-parity (turned t)) (last-parity t) (parities (turned t)) (t .turn-listed .ensures)
 
 cast-n : tie.Need-cast-n
 cast-n c = search needs
@@ -115,24 +133,30 @@ tally-columns-requires c κs =
 
 flip-all-requires : tie.Need-flip-all-requires
 unfolding Word
-flip-all-requires c κs = let s = c .before .before .before .before .before .before .before .before .before .before .before .before .before .before .before .before .before .before in (s .pre .0 .sizes .n-most, s .pre .2)
+flip-all-requires c κs = let s = from-votes (c .before .before .before .before) in (s .pre .0 .sizes .n-most, s .pre .2)
 
 slice-aggregate-list-flips : tie.Need-slice-aggregate-list-flips
 slice-aggregate-list-flips c = search needs
 
 list-flips-requires : tie.Need-list-flips-requires
 list-flips-requires c κs =
-    let s = c .before .before .before .before .before .before .before .before .before .before .before .before .before .before .before .before .before .before .before .before .before .before in
-    (s .pre .0 .sizes .n-most, word-below (lent s) (word s) (s .pre .2), word-below (lent s) (flipped (c .before .before .before)) (flipped-word (c .before .before .before)), refl)
+    let f = c .before .before .before in
+    let s = from-flips f in (
+      s .pre .0 .sizes .n-most,
+      word-below (lent s) (word s) (s .pre .2),
+      word-below (lent s) (flipped f) (flipped-word f),
+      refl,
+    )
 
 turn-listed-requires : tie.Need-turn-listed-requires
 turn-listed-requires c κs =
-    let s = c .before .before .before .before .before .before .before .before .before .before .before .before .before .before .before .before .before .before .before .before .before .before .before .before .before .before in
+    let f = c .before .before .before .before .before .before .before in
+    let s = from-flips f in
     let l = c .before .before .before .list-flips in (
       columns (lent s) (s .pre .0) (s .args .index .now) (s .pre .1),
       omega (arith, l .ensures .places .few, s .pre .0 .sizes .n-most),
       l .ensures .places .below,
-      parities (c .before .before .before .before .before .before .before .before .before .before .before .before .before .before .before .before .before .before) .bits,
+      parities (rows-of (votes-of f)) .bits,
     )
 
 count-odd-requires-2 : tie.Need-count-odd-requires-2
@@ -142,10 +166,11 @@ returns-2 : tie.Need-returns-2
 returns-2 c =
     let t = c .before .before in
     let s = from-turns t in
-    let f = t .before .before .before .before .before .before .before .before in
-    let v = f .before .before .before .before .before in
-    stepped-voted (lent s) (s .pre .0) (word s) (votes v) (v .before .before .before .before .count-odd .result) (tallied v) (flipped f) (c .count-odd2 .result) (v .before .before .before .if1 .left)
-    (f .flip-all .ensures) (c .count-odd2 .ensures ∙ failing-odd (lent s) (at (flipped f)) (last-parity t) (renewed t .parities))
+    let f = flips-of t in
+    let v = votes-of f in
+    stepped-voted (lent s) (s .pre .0) (word s) (votes v) (count-of v .count-odd .result) (tallied v) (flipped f) (c .count-odd2 .result)
+    (v .before .before .before .if1 .left) (f .flip-all .ensures)
+    (c .count-odd2 .ensures ∙ failing-odd (lent s) (at (flipped f)) (last-parity t) (renewed t .parities))
 
 pub vote-spec : {M : Type 1} → statement M
 vote-spec =

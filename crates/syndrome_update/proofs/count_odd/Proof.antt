@@ -1,6 +1,6 @@
 -- `syndrome_update::count_odd`. The loop's invariant: `t` is the sum of the parities below `i`.
 use Prim.Native.Nat.{_-_, _≤_}
-use mathlib.Core.Path.{_≡_, refl}
+use mathlib.Core.Path.{_≡_}
 use native.Mathlib.Nat.{le-antisymm}
 use native.Mathlib.Omega.{arith}
 use Rattle.counting.specs.Paper.Sum.{sumBelow}

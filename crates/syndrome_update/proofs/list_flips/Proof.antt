@@ -1,6 +1,6 @@
 -- `syndrome_update::list_flips`. The loop's invariant: the first `t` of `places` are the places below `j` at which the words differ.
 use Prim.Native.Nat.{_-_, _≤_}
-use mathlib.Core.Path.{sym, _∙_}
+use mathlib.Core.Path.{_≡_, sym, _∙_}
 use native.Mathlib.Nat.{le-antisymm}
 use native.Mathlib.Omega.{arith}
 use lib.Bits.{bitXor}
@@ -17,6 +17,16 @@ Inv-loop n before bits places₀ t₀ j₀ places t j = (j ≤ n) × PlacesListe
 
 abbrev μ-loop : tie.MeasureT-loop
 μ-loop n before bits places₀ t₀ j₀ places t j = n - j
+
+-- the next difference as it is computed, once there is one
+difference : (c : tie.In-loop Inv-loop μ-loop)
+    → bitXor (at (c .before .before .args .before .now) (c .before .loop .j)) (at (c .before .before .args .bits .now) (c .before .loop .j))
+    ≡ differing (at (c .before .before .args .before .now)) (at (c .before .before .args .bits .now)) (c .before .loop .j)
+difference c =
+    let s = c .before .before in
+    let j = c .before .loop .j in
+    difference-is (at (s .args .before .now)) (at (s .args .bits .now)) j (bit-below (s .args .n) (s .args .before .now) j (s .pre .1) (omega arith))
+    (bit-below (s .args .n) (s .args .bits .now) j (s .pre .2) (omega arith))
 
 loop-holds : tie.Need-loop-holds Inv-loop μ-loop
 loop-holds c = (omega arith, listed-none (differing (at (c .args .before .now)) (at (c .args .bits .now))) (c .args .places .now) (c .pre .3))
@@ -40,13 +50,13 @@ cast-t : tie.Need-cast-t Inv-loop μ-loop
 cast-t c =
     let s = c .before .before .before .before in
     let o = c .before .before .before .loop in
-    omega (arith, difference-is (at (s .args .before .now)) (at (s .args .bits .now)) (o .j) (bit-below (s .args .n) (s .args .before .now) (o .j) (s .pre .1) (omega arith)) (bit-below (s .args .n) (s .args .bits .now) (o .j) (s .pre .2) (omega arith)), difference-bit (at (s .args .before .now)) (at (s .args .bits .now)) (o .j))
+    omega (arith, difference (c .before .before), difference-bit (at (s .args .before .now)) (at (s .args .bits .now)) (o .j))
 
 add-t : tie.Need-add-t Inv-loop μ-loop
 add-t c =
     let s = c .before .before .before .before in
     let o = c .before .before .before .loop in
-    omega (arith, difference-is (at (s .args .before .now)) (at (s .args .bits .now)) (o .j) (bit-below (s .args .n) (s .args .before .now) (o .j) (s .pre .1) (omega arith)) (bit-below (s .args .n) (s .args .bits .now) (o .j) (s .pre .2) (omega arith)), difference-bit (at (s .args .before .now)) (at (s .args .bits .now)) (o .j), o .inv .1 .places .few)
+    omega (arith, difference (c .before .before), difference-bit (at (s .args .before .now)) (at (s .args .bits .now)) (o .j), o .inv .1 .places .few)
 
 add-j : tie.Need-add-j Inv-loop μ-loop
 add-j c = omega arith
@@ -58,11 +68,10 @@ loop-again : tie.Need-loop-again Inv-loop μ-loop
 loop-again c =
     let s = c .before .before .before .before in
     let o = c .before .before .before .loop in
-    let x = bitXor (at (s .args .before .now) (o .j)) (at (s .args .bits .now) (o .j)) in
-    let e = difference-is (at (s .args .before .now)) (at (s .args .bits .now)) (o .j) (bit-below (s .args .n) (s .args .before .now) (o .j) (s .pre .1) (omega arith)) (bit-below (s .args .n) (s .args .bits .now) (o .j) (s .pre .2) (omega arith)) in (
+    let e = difference (c .before .before) in (
       omega arith,
       listed-step (differing (at (s .args .before .now)) (at (s .args .bits .now))) (o .j) (s .args .places .now) (o .places) (o .t) (o .inv .1)
-          (omega arith) x e (omega (arith, e, difference-bit (at (s .args .before .now)) (at (s .args .bits .now)) (o .j))),
+          (omega arith) _ e (omega (arith, e, difference-bit (at (s .args .before .now)) (at (s .args .bits .now)) (o .j))),
     )
 
 same-length : tie.Need-same-length Inv-loop μ-loop

@@ -14,7 +14,11 @@ abbrev μ-loop : tie.MeasureT-loop
 μ-loop index n places count parity₀ q₀ parity q = count - q
 
 loop-holds : tie.Need-loop-holds Inv-loop μ-loop
-loop-holds c = (omega arith, listed-none (c .before .args .parity .now) (c .before .pre .3) (c .before .args .index .now) (c .before .args .n) (c .before .args .places .now))
+loop-holds c = (
+  omega arith,
+  listed-none (c .before .args .parity .now) (c .before .pre .3) (c .before .args .index .now) (c .before .args .n)
+      (c .before .args .places .now),
+)
 
 mul-j : tie.Need-mul-j Inv-loop μ-loop
 mul-j c = omega arith
