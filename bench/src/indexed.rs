@@ -144,31 +144,32 @@ struct Part<const FORMS: usize> {
     rust: [f64; FORMS],
 }
 
-/// The verifying of a lent index: calls that are refused by 7 right after it.
+/// The verifying of a lent index: calls that are refused by 7 right after it. The replays come after
+/// the call without an index, so that they meet the memory as the library's verifying does.
 fn verifying(code: &Code, own: &[u16], turns: usize) -> Part<2> {
     let h = &code.matrix;
     let with = || ffi_face::one_step_indexed(black_box(h).into(), black_box(own), &[], &mut []);
-    let without = || ffi_face::one_step(black_box(h).into(), &[], &mut []);
+    let call = || ffi_face::one_step(black_box(h).into(), &[], &mut []);
     // SAFETY: the check has accepted the matrix.
     let fastest = || unsafe { index::is_own(black_box(h), black_box(own)) };
     // SAFETY: the same.
     let plain = || unsafe { index::is_own_plain(black_box(h), black_box(own)) };
-    assert_eq!([with(), without()], [Packed::new(7 * 65536, 0, 0, 0); 2]);
+    assert_eq!([with(), call()], [Packed::new(7 * 65536, 0, 0, 0); 2]);
     assert!(fastest() && plain());
     let with = Form::new(1, || {
         black_box(with());
     });
     let without = Form::new(1, || {
-        black_box(without());
+        black_box(call());
     });
     let fastest = Form::new(1, || {
-        black_box(fastest());
+        black_box((call(), fastest()));
     });
     let plain = Form::new(1, || {
-        black_box(plain());
+        black_box((call(), plain()));
     });
     let [with, without, rust @ ..] = best_times(turns, [with, without, fastest, plain]);
-    let library = with - without;
+    let (library, rust) = (with - without, rust.map(|form| form - without));
     Part { library, rust }
 }
 
@@ -235,7 +236,8 @@ pub fn measure(turns: usize) {
         "The parts alone. Verifying: one-step voting that is refused by 7, lent the own index, less the \
          same without an index. Building: the call less the matrix check. In plain Rust, no bounds \
          checks: a cursor for each column and the rows walked once, each number compared (the replay) \
-         or written. Fastest replay: no branch within a row, the differences ORed and looked at after \
+         or written. A replay comes after the call without an index, whose time is taken off, so that \
+         it meets the memory as the verifying does. Fastest replay: no branch within a row, the differences ORed and looked at after \
          it. Plain replay: as C has it, each number compared by a branch that ends the replay at the \
          first difference. The forms of each part take turns, and the best of {turns} turns of each \
          counts. Literal: all rows searched for each column and the lists compared, the best of \
