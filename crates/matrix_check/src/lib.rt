@@ -12,8 +12,10 @@ ghost use mathlib.Core.List.{[]};
 ghost use Rattle.counting.specs.Paper.Search.{first};
 ghost use Rattle.answers.specs.Paper.Enums.{verdictOf};
 ghost use Rattle.matrix.specs.Paper.Check.{within, sizesFit, overlapping, checkOf};
+ghost use Rattle.matrix.specs.Paper.PlainCheck.{BadWeight, Never};
 ghost use Rattle.matrix.specs.Ordered.{Sized, Ordered};
 ghost use Rattle.matrix.specs.Paper.Shapes.{matrixOf};
+ghost use Rattle.matrix_check.specs.Parts.{Fits};
 
 // Whether x lies from lo to hi.
 fn in_range(lo: u16, x: u16, hi: u16) -> bool
@@ -35,6 +37,18 @@ fn sizes_fit(shape: Shape) -> bool
         & (ones_by_row == ones_by_column)
 }
 
+// Whether the sizes are in range and go together and the list has its length: refusals 1 and 2 as one question.
+pub fn fits(shape: Shape, list: &[u16]) -> bool
+    ensures { λ r. ⌜ Fits (matrixOf shape (now (list .entry))) r ⌝ }
+{
+    if !sizes_fit(shape) {
+        return false;
+    }
+    let m = shape.m as usize;
+    let rho = shape.rho as usize;
+    list.len() == m * rho
+}
+
 // The first row that shares two columns or more with a later row, else m. Whether there is one, `pair_twice` says soon:
 // the exact search requires one, so an accepted matrix never reaches it.
 fn first_overlap(shape: Shape, list: &[u16]) -> usize
@@ -47,13 +61,25 @@ fn first_overlap(shape: Shape, list: &[u16]) -> usize
     shape.m as usize
 }
 
+// Refusal 5, where refusals 1 to 4 pass the matrix. Only this repository's crates call it, after asking these.
+pub fn ask_overlap(shape: Shape, list: &[u16]) -> Checked
+    requires { ⌜ Ordered (matrixOf shape (now list)) × Never (BadWeight (matrixOf shape (now list))) (shape .n) ⌝ }
+    ensures { λ r. ⌜ verdictOf r ≡ checkOf (matrixOf shape (now (list .entry))) ⌝ }
+{
+    let m = shape.m as usize;
+    let i = first_overlap(shape, list);
+    if i < m {
+        return Checked::Refused(Refusal::Overlap(i as u16));
+    }
+    Checked::Accepted
+}
+
 // The matrix check once the sizes and the length are right: refusals 3 to 5.
 fn check_list(shape: Shape, list: &[u16]) -> Checked
     requires { ⌜ Sized (matrixOf shape (now list)) ⌝ }
     ensures { λ r. ⌜ verdictOf r ≡ checkOf (matrixOf shape (now (list .entry))) ⌝ }
 {
     let n = shape.n as usize;
-    let m = shape.m as usize;
     let mut weights = [0u16; 1023];
     let p = walk(shape, list, &mut weights);
     if p < list.len() {
@@ -63,11 +89,7 @@ fn check_list(shape: Shape, list: &[u16]) -> Checked
     if j < n {
         return Checked::Refused(Refusal::Weight(j as u16));
     }
-    let i = first_overlap(shape, list);
-    if i < m {
-        return Checked::Refused(Refusal::Overlap(i as u16));
-    }
-    Checked::Accepted
+    ask_overlap(shape, list)
 }
 
 // The matrix check. No input needs to be looked at before.

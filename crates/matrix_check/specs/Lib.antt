@@ -1,0 +1,2 @@
+-- What the contracts of `matrix_check` cite.
+pub mod Parts
