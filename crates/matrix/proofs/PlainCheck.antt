@@ -5,6 +5,7 @@
 --   overlap-says, overlap-clear    == the test of refusal 5: what it says where it passes, and where it fails
 --   entries, weights, overlaps     == the tests of refusals 3, 4 and 5 decide their statements
 --   clear-below, clear-ascending   == a list without a bad entry is rows of ascending column numbers below n
+--   rows-clear                     == and such rows have no bad entry
 --   accepts                        == a matrix to which no refusal applies is accepted
 --   reads, reads-only              == the verdict of a matrix has its reading, and is the only one that has
 --   accepted-is, is-accepted       == what an accepted matrix is, both ways
@@ -187,7 +188,7 @@ module _ (H : Matrix) where
         ]
 
   -- and such rows have no bad entry: p is entry p % rho of row p / rho
-  rows-clear : Sizes H → Rows H → Never (BadEntry H) (length (H .list))
+  pub rows-clear : Sizes H → Rows H → Never (BadEntry H) (length (H .list))
   unfolding entry
   rows-clear s r p l bad = go bad
     where

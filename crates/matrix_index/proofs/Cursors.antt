@@ -4,16 +4,20 @@
 --   reached         == a row's place as the code adds it up
 --   start-equal     == where every column has gamma ones, column j starts at j * gamma
 --   entry-alone     == no earlier entry of a row has the column of a later one
+--   before-few      == the rows before row i have no more ones than entries
 --   cursor-is       == the cursor of the next entry's column is at that entry's place
---   cursor-small    == no cursor lies past the row numbers
 --   cursors-none    == before the first row each cursor is at its column's starting place
 --   cursors-step    == one entry more
+--   cursors-next    == the same as the code writes it
 --   cursors-row     == a row with all of its entries passed is done
 --   passed-none     == nothing is passed yet
 --   passed-step     == passing one entry more moves one cursor, and none past the columns
 --   passed-row      == a row with all of its entries passed is done
 --   Spot            == the next place of the list, its column, and the place of the row there
 --   spot-of         == the next entry has its spot
+--   place-equal     == where every column has gamma ones, the spot is that of the index
+--   spot-place      == so the cursor tells the row's place in the index
+--   spot-inside     == which lies in it
 -- Assumes nothing.
 use mathlib.Core.Path.{_≡_, refl, sym, _∙_}
 use mathlib.Core.List.{List}
@@ -24,17 +28,19 @@ use native.Mathlib.Numerals.{add-one}
 use native.Mathlib.Omega.{arith}
 use lib.ListN.{length, set, replicate, length-set, length-replicate}
 use lib.Seq.{getD-set-other}
-use Rattle.counting.specs.Paper.Sum.{sumBelow}
+use Rattle.counting.specs.Paper.Sum.{sumBelow, same}
 use Rattle.counting.specs.Paper.Lists.{listed, over}
 use Rattle.counting.specs.Places.{at}
-use Rattle.counting.proofs.Sums.{sum-cong, sum-const, sum-zero, same-refl, same-ne}
+use Rattle.counting.proofs.Sums.{sum-cong, sum-const, sum-zero, sum-bound, same-le, same-refl, same-ne}
+use Rattle.counting.proofs.Ascending.{ascending-lt}
 use Rattle.counting.proofs.Writes.{stored, over-long, over-at}
 use Rattle.matrix.specs.Paper.Code.{Matrix, entry, has}
 use Rattle.matrix.specs.Paper.PlainCheck.{Accepted}
-use Rattle.matrix.proofs.Rows.{few-entries, in-list, ascends}
+use Rattle.matrix.specs.Ordered.{Ordered}
+use Rattle.matrix.proofs.Ordered.{few, in-list, column-in, column-below, columns-ascend}
 use Rattle.matrix.proofs.Weights.{weight-equal}
 use Rattle.matrix_index.specs.Paper.Index.{columnStart, indexSize}
-use Rattle.matrix_index.specs.Filling.{before, inRow, startBy, rowPlace, Cursors, Passed}
+use Rattle.matrix_index.specs.Filling.{before, inRow, startBy, rowPlace, placeBy, Cursors, Passed}
 use Rattle.matrix_index.proofs.Parts.{place-inside}
 
 -- the next place of the list, its column, and the place of the row there
@@ -42,9 +48,8 @@ pub record Spot (H : Matrix) (i k : ℕ) (c : List ℕ) : Type 0 where
   pub place : i * H .rho + k < length (H .list)
   pub few : i * H .rho + k < 32736
   pub column : at (H .list) (i * H .rho + k) < 1023
-  pub cursor : suc (H .n) + at c (at (H .list) (i * H .rho + k)) ≡ rowPlace H i k
-  pub inside : suc (H .n) + at c (at (H .list) (i * H .rho + k)) < indexSize H
-  pub low : at c (at (H .list) (i * H .rho + k)) < 32736
+  pub cursor : suc (H .n) + at c (at (H .list) (i * H .rho + k)) ≡ placeBy H i k
+  pub low : at c (at (H .list) (i * H .rho + k)) < 65505
 
 -- a starting place as it is computed
 pub start-is : (gamma j : ℕ) → j * gamma ≡ startBy gamma j
@@ -59,20 +64,20 @@ start-small j gamma h l = mul-le-mul {n₁ = j} {m₁ = gamma} {n₂ = 1024} {m�
 pub reached : (n c : ℕ) {p : ℕ} → suc n + c ≡ p → n + 1 + c ≡ p
 reached n c e = omega (arith, e)
 
-module _ (H : Matrix) (a : Accepted H) where
-  -- where every column has gamma ones, column j starts at j * gamma
-  pub start-equal : (j : ℕ) → j ≤ H .n → columnStart H j ≡ startBy (H .gamma) j
-  unfolding columnStart startBy
-  start-equal j l = sum-cong j (λ x h. weight-equal H a (a .sizes .product) x (omega arith)) ∙ sum-const j (H .gamma)
+-- the rows before row i have no more ones than entries
+pub before-few : (H : Matrix) (i j : ℕ) → before H i j ≤ i * H .rho
+unfolding before has
+before-few H i j = sum-bound i (H .rho) (λ r h. omega (arith, sum-bound (H .rho) 1 {f = λ k. same (entry H r k) j} (λ k l. same-le (entry H r k) j)))
 
+module _ (H : Matrix) (o : Ordered H) where
   -- before the first row each cursor is at its column's starting place
   pub cursors-none : (c : List ℕ) → c ≡ over (listed (H .n) (startBy (H .gamma))) (replicate 1023 0) → Cursors H 0 0 c
   unfolding before inRow sumBelow
   cursors-none c e =
       record {
-        long = over-long (H .n) (startBy (H .gamma)) (replicate 1023 0) c e (omega (arith, a .sizes .n-most, length-replicate {A = ℕ} 1023 0))
+        long = over-long (H .n) (startBy (H .gamma)) (replicate 1023 0) c e (omega (arith, o .sized .sizes .n-most, length-replicate {A = ℕ} 1023 0))
             ∙ length-replicate {A = ℕ} 1023 0;
-        each = λ j l. over-at (H .n) (startBy (H .gamma)) (replicate 1023 0) c e 0 j l ∙ sym (start-equal j (omega arith)) ∙ omega arith;
+        each = λ j l. over-at (H .n) (startBy (H .gamma)) (replicate 1023 0) c e 0 j l ∙ omega arith;
       }
 
   -- nothing is passed yet
@@ -83,37 +88,43 @@ module _ (H : Matrix) (a : Accepted H) where
     -- no earlier entry of a row has the column of a later one
     pub entry-alone : (k : ℕ) → k < H .rho → inRow H i k (entry H i k) ≡ 0
     unfolding inRow
-    entry-alone k h = sum-zero k (λ q l. same-ne (entry H i q) (entry H i k) (λ e. omega (arith, ascends H (a .rows) i q k row l h)))
+    entry-alone k h =
+        sum-zero k (λ q l. same-ne (entry H i q) (entry H i k) (λ e.
+        omega (arith, ascending-lt (entry H i) (H .rho) (λ x. columns-ascend o i x row) q k l h)))
 
     module _ (k : ℕ) (h : k < H .rho) (c : List ℕ) (u : Cursors H i k c) where
       -- the cursor of the next entry's column is at that entry's place
-      pub cursor-is : suc (H .n) + at c (entry H i k) ≡ rowPlace H i k
-      unfolding rowPlace
-      cursor-is = omega (arith, u .each (entry H i k) (a .rows .below i k row h), entry-alone k h)
+      pub cursor-is : suc (H .n) + at c (entry H i k) ≡ placeBy H i k
+      unfolding placeBy
+      cursor-is = omega (arith, u .each (entry H i k) (column-in o i k row h), entry-alone k h)
 
-      inside : suc (H .n) + at c (entry H i k) < indexSize H
-      inside = omega (arith, cursor-is, place-inside H (a .rows) i k row h)
-
-      -- no cursor lies past the row numbers
-      pub cursor-small : at c (entry H i k) < 32736
-      unfolding indexSize
-      cursor-small = omega (arith, inside, few-entries H (a .sizes))
+      -- no cursor outgrows its cell
+      cursor-low : at c (entry H i k) < 65505
+      unfolding startBy
+      cursor-low =
+          omega (
+            arith,
+            u .each (entry H i k) (column-in o i k row h),
+            entry-alone k h,
+            mul-le-mul {n₁ = entry H i k} {m₁ = H .gamma} {n₂ = 1022} {m₂ = 32} (omega (arith, column-below o i k row h)) (o .sized .sizes .gamma-most),
+            before-few H i (entry H i k),
+            mul-le-mul {n₁ = i} {m₁ = H .rho} {n₂ = 1022} {m₂ = 32} (omega (arith, row, o .sized .sizes .m-most)) (o .sized .sizes .rho-most),
+          )
 
       -- the next entry has its spot
       pub spot-of : Spot H i k c
       unfolding entry
       spot-of =
           record {
-            place = in-list H (a .rows) i k row h;
-            few = omega (arith, in-list H (a .rows) i k row h, a .rows .whole, few-entries H (a .sizes));
-            column = omega (arith, a .rows .below i k row h, a .sizes .n-most);
+            place = in-list (o .sized) i k row h;
+            few = omega (arith, in-list (o .sized) i k row h, few (o .sized));
+            column = column-below o i k row h;
             cursor = cursor-is;
-            inside = inside;
-            low = cursor-small;
+            low = cursor-low;
           }
 
       in-cursors : entry H i k < length c
-      in-cursors = omega (arith, u .long, a .rows .below i k row h, a .sizes .n-most)
+      in-cursors = omega (arith, u .long, column-below o i k row h)
 
       -- one entry more
       pub cursors-step : Cursors H i (k + 1) (set c (entry H i k) (at c (entry H i k) + 1))
@@ -123,10 +134,15 @@ module _ (H : Matrix) (a : Accepted H) where
           record {
             long = length-set c (entry H i k) (at c (entry H i k) + 1) ∙ u .long;
             each = λ j l. elim (stored c (entry H i k) (at c (entry H i k) + 1) j in-cursors) [
-              | inl e ↦ rw (e .1) (omega (arith, rw (e .1) at (e .0), u .each (entry H i k) (a .rows .below i k row h), same-refl (entry H i k)))
+              | inl e ↦ rw (e .1) (omega (arith, rw (e .1) at (e .0), u .each (entry H i k) (column-in o i k row h), same-refl (entry H i k)))
               | inr e ↦ omega (arith, e .0, u .each j l, same-ne (entry H i k) j (λ q. e .1 (sym q)))
             ];
           }
+
+      -- the same as the code writes it
+      pub cursors-next : Cursors H i (k + 1) (set c (at (H .list) (i * H .rho + k)) (at c (at (H .list) (i * H .rho + k)) + 1))
+      unfolding entry
+      cursors-next = cursors-step
 
     -- passing one entry more moves one cursor, and none past the columns
     pub passed-step : (k : ℕ) (c₀ c : List ℕ) → k < H .rho → Passed H i k c₀ c
@@ -134,9 +150,9 @@ module _ (H : Matrix) (a : Accepted H) where
     unfolding entry
     passed-step k c₀ c h p =
         record {
-          cursors = cursors-step k h c (p .cursors);
+          cursors = cursors-next k h c (p .cursors);
           beyond = λ j l.
-              getD-set-other c (entry H i k) j (at c (entry H i k) + 1) 0 (λ e. omega (arith, a .rows .below i k row h)) ∙ p .beyond j l;
+              getD-set-other c (entry H i k) j (at c (entry H i k) + 1) 0 (λ e. omega (arith, column-in o i k row h)) ∙ p .beyond j l;
         }
 
     -- a row with all of its entries passed is done
@@ -146,3 +162,24 @@ module _ (H : Matrix) (a : Accepted H) where
 
     pub passed-row : (c₀ c : List ℕ) → Passed H i (H .rho) c₀ c → Passed H (i + 1) 0 c₀ c
     passed-row c₀ c p = record { cursors = cursors-row c (p .cursors); beyond = p .beyond }
+
+module _ (H : Matrix) (a : Accepted H) where
+  -- where every column has gamma ones, column j starts at j * gamma
+  pub start-equal : (j : ℕ) → j ≤ H .n → columnStart H j ≡ startBy (H .gamma) j
+  unfolding columnStart startBy
+  start-equal j l = sum-cong j (λ x h. weight-equal H a (a .sizes .product) x (omega arith)) ∙ sum-const j (H .gamma)
+
+  module _ (i k : ℕ) (row : i < H .m) (h : k < H .rho) where
+    -- the spot is that of the index
+    pub place-equal : placeBy H i k ≡ rowPlace H i k
+    unfolding placeBy rowPlace
+    place-equal = omega (arith, start-equal (entry H i k) (omega (arith, a .rows .below i k row h)))
+
+    module _ (c : List ℕ) (s : Spot H i k c) where
+      -- so the cursor tells the row's place in the index
+      pub spot-place : suc (H .n) + at c (at (H .list) (i * H .rho + k)) ≡ rowPlace H i k
+      spot-place = s .cursor ∙ place-equal
+
+      -- which lies in it
+      pub spot-inside : suc (H .n) + at c (at (H .list) (i * H .rho + k)) < indexSize H
+      spot-inside = omega (arith, spot-place, place-inside H (a .rows) i k row h)

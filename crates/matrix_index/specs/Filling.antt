@@ -3,7 +3,8 @@
 --   inRow H i k j            == the ones of column j among the first k entries of row i
 --   startBy gamma j           == the starting place of column j where every column has gamma ones
 --   rowPlace H i k            == where row i stands for its k-th entry
---   Cursors H i k c           == c has, for each column, where its next row goes after the rows before row i and k entries of row i
+--   placeBy H i k             == the same where every column has gamma ones, whatever the weights are
+--   Cursors H i k c           == c has, for each column, where by that its next row goes after the rows before row i and k entries of row i
 --   rowPut H i k x            == x with row i written at the places of its first k entries
 --   rowsPut H i x             == x with the rows before row i written at all of theirs
 --   Passed H i k c c′         == c became such cursors c′; those past the columns stay
@@ -33,10 +34,14 @@ startBy gamma j = j * gamma
 unfoldable pub rowPlace : Matrix → ℕ → ℕ → ℕ
 rowPlace H i k = suc (H .n) + (columnStart H (entry H i k) + before H i (entry H i k))
 
+-- the same by starting places of columns of equal weight: nothing is asked of the weights
+unfoldable pub placeBy : Matrix → ℕ → ℕ → ℕ
+placeBy H i k = suc (H .n) + (startBy (H .gamma) (entry H i k) + before H i (entry H i k))
+
 -- for each column, how many row numbers stand before its next one
 pub record Cursors (H : Matrix) (i k : ℕ) (c : List ℕ) : Type 0 where
   pub long : length c ≡ 1023
-  pub each : (j : ℕ) → j < H .n → at c j ≡ columnStart H j + (before H i j + inRow H i k j)
+  pub each : (j : ℕ) → j < H .n → at c j ≡ startBy (H .gamma) j + (before H i j + inRow H i k j)
 
 -- row i at the places of its first k entries
 unfoldable pub rowPut : Matrix → ℕ → ℕ → List ℕ → List ℕ

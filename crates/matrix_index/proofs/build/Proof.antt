@@ -4,6 +4,7 @@ use mathlib.Core.Path.{_≡_, refl, sym}
 use native.Mathlib.Nat.{le-antisymm}
 use native.Mathlib.Omega.{arith}
 use Rattle.matrix.specs.Paper.Shapes.{matrixOf}
+use Rattle.matrix.proofs.Ordered.{accepted-ordered}
 use Rattle.matrix_index.specs.Filling.{Cursors, rowsPut}
 use Rattle.matrix_index.proofs.Cursors.{cursors-none}
 use Rattle.matrix_index.proofs.Filling.{puts-none, puts-next, puts-room, rows-done, size-past}
@@ -54,7 +55,7 @@ loop-holds : tie.Need-loop-holds Inv-loop μ-loop
 loop-holds c =
     let s = c .before .before .before .before .before .before .before .before .before .before .before .before in (
       omega arith,
-      cursors-none (matrixOf (s .args .shape) (s .args .list .now)) (s .pre .0) _
+      cursors-none (matrixOf (s .args .shape) (s .args .list .now)) (accepted-ordered _ (s .pre .0)) _
           (c .before .before .before .before .before .put-starts .ensures),
       puts-none (matrixOf (s .args .shape) (s .args .list .now)) _,
     )

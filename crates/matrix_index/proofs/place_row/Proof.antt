@@ -6,8 +6,9 @@ use native.Mathlib.Omega.{arith}
 use lib.ListN.{length}
 use Rattle.matrix.specs.Paper.Code.{Matrix}
 use Rattle.matrix.specs.Paper.Shapes.{matrixOf}
+use Rattle.matrix.proofs.Ordered.{accepted-ordered}
 use Rattle.matrix_index.specs.Filling.{Passed, rowPut}
-use Rattle.matrix_index.proofs.Cursors.{Spot, spot-of, reached, passed-none, passed-step, passed-row}
+use Rattle.matrix_index.proofs.Cursors.{Spot, spot-of, spot-place, spot-inside, reached, passed-none, passed-step, passed-row}
 use Rattle.matrix_index.proofs.Filling.{put-next, put-long, put-none}
 use Rattle.matrix_index.proofs.place_row.Statement.{statement}
 use Rattle.matrix_index.proofs.place_row.Tie as tie
@@ -29,7 +30,7 @@ spot : (c : tie.In-loop Inv-loop μ-loop)
 spot c =
     let s = c .before .before .before in
     let l = c .before .loop in
-    spot-of (lent s) (s .pre .0) (s .args .i) (s .pre .1) (l .k) (omega arith) (l .cursors) (l .inv .1 .cursors)
+    spot-of (lent s) (accepted-ordered (lent s) (s .pre .0)) (s .args .i) (s .pre .1) (l .k) (omega arith) (l .cursors) (l .inv .1 .cursors)
 
 cast-rho : tie.Need-cast-rho Inv-loop μ-loop
 cast-rho c = omega (arith, c .before .pre .0 .sizes .rho-most)
@@ -37,7 +38,11 @@ cast-rho c = omega (arith, c .before .pre .0 .sizes .rho-most)
 loop-holds : tie.Need-loop-holds Inv-loop μ-loop
 loop-holds c =
     let s = c .before in
-    (omega arith, passed-none (lent s) (s .pre .0) (s .args .i) (s .args .cursors .now) (s .pre .2), put-none (lent s) (s .args .i) (s .args .index .now))
+    (
+      omega arith,
+      passed-none (lent s) (accepted-ordered (lent s) (s .pre .0)) (s .args .i) (s .args .cursors .now) (s .pre .2),
+      put-none (lent s) (s .args .i) (s .args .index .now),
+    )
 
 cast-base : tie.Need-cast-base Inv-loop μ-loop
 cast-base c = omega (arith, c .before .before .before .before .pre .0 .sizes .n-most)
@@ -90,7 +95,7 @@ slice-write-index c =
     let l = c .before .before .before .before .loop in
     omega (
       arith,
-      spot (c .before .before .before) .inside,
+      spot-inside (lent s) (s .pre .0) (s .args .i) (l .k) (s .pre .1) (omega arith) (l .cursors) (spot (c .before .before .before)),
       s .pre .3,
       ap length (l .inv .2),
       put-long (lent s) (s .args .i) (l .k) (s .args .index .now),
@@ -119,8 +124,9 @@ loop-again c =
     let s = c .before .before .before .before .before .before in
     let l = c .before .before .before .before .loop in (
       omega arith,
-      passed-step (lent s) (s .pre .0) (s .args .i) (s .pre .1) (l .k) (s .args .cursors .now) (l .cursors) (omega arith) (l .inv .1),
-      put-next (lent s) (s .args .i) (l .k) _ (s .args .index .now) (l .index) (reached _ _ (spot (c .before .before .before) .cursor)) (l .inv .2),
+      passed-step (lent s) (accepted-ordered (lent s) (s .pre .0)) (s .args .i) (s .pre .1) (l .k) (s .args .cursors .now) (l .cursors) (omega arith) (l .inv .1),
+      put-next (lent s) (s .args .i) (l .k) _ (s .args .index .now) (l .index)
+          (reached _ _ (spot-place (lent s) (s .pre .0) (s .args .i) (l .k) (s .pre .1) (omega arith) (l .cursors) (spot (c .before .before .before)))) (l .inv .2),
     )
 
 same-length : tie.Need-same-length Inv-loop μ-loop
@@ -137,7 +143,7 @@ returns c =
     let s = c .before .before .before in
     let l = c .before .loop in
     let e : l .k ≡ s .args .shape .rho = le-antisymm (l .inv .0) (omega arith) in
-    (passed-row (lent s) (s .pre .0) (s .args .i) (s .pre .1) (s .args .cursors .now) (l .cursors) (rw e at (l .inv .1)), rw e at (l .inv .2))
+    (passed-row (lent s) (accepted-ordered (lent s) (s .pre .0)) (s .args .i) (s .pre .1) (s .args .cursors .now) (l .cursors) (rw e at (l .inv .1)), rw e at (l .inv .2))
 
 pub place-row-spec : {M : Type 1} → statement M
 place-row-spec =

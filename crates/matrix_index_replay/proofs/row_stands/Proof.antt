@@ -1,0 +1,176 @@
+-- `matrix_index_replay::row_stands`. The loop's invariant: the row stands at the places of its first `k` entries, whose cursors have moved on.
+use Prim.Native.Nat.{ℕ, _-_, _≤_, _<_}
+use mathlib.Core.Path.{_≡_, sym, ap, _∙_}
+use mathlib.Core.Bool.{false}
+use native.Mathlib.Nat.{le-antisymm}
+use native.Mathlib.Omega.{arith}
+use borrow.Author.Tests.{not-true, not-false}
+use Rattle.counting.proofs.Searches.{never}
+use Rattle.matrix.specs.Paper.Code.{Matrix}
+use Rattle.matrix.specs.Paper.Shapes.{matrixOf}
+use Rattle.matrix_index.specs.Filling.{Cursors}
+use Rattle.matrix_index.proofs.Cursors.{Spot, spot-of, reached, cursors-next, cursors-row}
+use Rattle.matrix_index_replay.specs.Replay.{Stands}
+use Rattle.matrix_index_replay.proofs.Numbers.{row-standing, row-missing, row-more}
+use Rattle.matrix_index_replay.proofs.row_stands.Statement.{statement}
+use Rattle.matrix_index_replay.proofs.row_stands.Tie as tie
+
+abbrev Inv-loop : tie.InvT-loop
+Inv-loop shape list i cursors₀ index rho k₀ cursors k =
+    (k ≤ rho) × Cursors (matrixOf shape list) i k cursors × ((q : ℕ) → q < k → Stands (matrixOf shape list) index i q)
+
+abbrev μ-loop : tie.MeasureT-loop
+μ-loop shape list i cursors₀ index rho k₀ cursors k = rho - k
+
+-- the matrix that is lent
+abbrev lent : tie.Start Inv-loop μ-loop → Matrix
+lent s = matrixOf (s .args .shape) (s .args .list .now)
+
+-- where the next entry goes, once there is one
+spot : (c : tie.In-loop Inv-loop μ-loop)
+    → Spot (lent (c .before .before .before .before .before .before)) (c .before .before .before .before .before .before .args .i) (c .before .loop .k)
+    (c .before .loop .cursors)
+spot c =
+    let s = c .before .before .before .before .before .before in
+    let l = c .before .loop in
+    spot-of (lent s) (s .pre .0) (s .args .i) (s .pre .1) (l .k) (omega arith) (l .cursors) (l .inv .1)
+
+cast-rho : tie.Need-cast-rho Inv-loop μ-loop
+cast-rho c = omega (arith, c .before .before .before .before .pre .0 .sized .sizes .rho-most)
+
+loop-holds : tie.Need-loop-holds Inv-loop μ-loop
+loop-holds c = let s = c .before .before .before .before in (omega arith, s .pre .2, λ q l. absurd (omega arith))
+
+cast-base : tie.Need-cast-base Inv-loop μ-loop
+cast-base c = omega (arith, c .before .before .before .before .before .before .before .pre .0 .sized .sizes .n-most)
+
+add-base : tie.Need-add-base Inv-loop μ-loop
+add-base c = omega (arith, c .before .before .before .before .before .before .before .pre .0 .sized .sizes .n-most)
+
+mul-j : tie.Need-mul-j Inv-loop μ-loop
+mul-j c = omega (arith, spot (c .before) .few)
+
+add-j : tie.Need-add-j Inv-loop μ-loop
+add-j c = omega (arith, spot (c .before) .few)
+
+mul-j-2 : tie.Need-mul-j-2 Inv-loop μ-loop
+mul-j-2 c = omega (arith, spot (c .before) .few)
+
+shared-slice-read-j : tie.Need-shared-slice-read-j Inv-loop μ-loop
+shared-slice-read-j c = spot (c .before .before) .place
+
+cast-j : tie.Need-cast-j Inv-loop μ-loop
+cast-j c = omega (arith, spot (c .before .before) .column)
+
+mul-c : tie.Need-mul-c Inv-loop μ-loop
+mul-c c = omega (arith, spot (c .before .before) .column)
+
+slice-read-c : tie.Need-slice-read-c Inv-loop μ-loop
+slice-read-c c = omega (arith, spot (c .before .before .before) .column, c .before .before .before .before .loop .inv .1 .long)
+
+cast-c : tie.Need-cast-c Inv-loop μ-loop
+cast-c c = omega (arith, spot (c .before .before .before) .low)
+
+add-stands : tie.Need-add-stands Inv-loop μ-loop
+add-stands c =
+    omega (arith, spot (c .before .before .before) .low, c .before .before .before .before .before .before .before .before .before .pre .0 .sized .sizes .n-most)
+
+cast-stands : tie.Need-cast-stands Inv-loop μ-loop
+cast-stands c = let s = c .before .before .before .before .before .before .before .before .before in omega (arith, s .pre .1, s .pre .0 .sized .sizes .m-most)
+
+stands-requires : tie.Need-stands-requires Inv-loop μ-loop
+stands-requires c κs = tt
+
+same-length : tie.Need-same-length Inv-loop μ-loop
+same-length c =
+    c .before .before .before .before .before .before .loop .inv .1 .long
+    ∙ sym (c .before .before .before .before .before .before .before .before .before .before .before .pre .2 .long)
+
+returns : tie.Need-returns Inv-loop μ-loop
+returns c =
+    let s = c .before .before .before .before .before .before .before .before .before .before .before in
+    let l = c .before .before .before .before .before .before .loop in
+    record {
+      so = λ e. absurd (never (sym e));
+      not-so = λ e all.
+          row-missing (lent s) (s .args .index .now) (s .args .i) (l .k) _ (reached _ _ (spot (c .before .before .before .before .before) .cursor))
+              (c .before .stands .result) (c .before .stands .ensures)
+              (not-true _ (c .if1 .taken))
+              (all (l .k) (omega arith));
+    }
+
+add-cursors : tie.Need-add-cursors Inv-loop μ-loop
+add-cursors c = omega (arith, spot (c .before .before .before .before .before) .low)
+
+cast-cursors : tie.Need-cast-cursors Inv-loop μ-loop
+cast-cursors c = omega (arith, spot (c .before .before .before .before .before) .low)
+
+mul-cursors : tie.Need-mul-cursors Inv-loop μ-loop
+mul-cursors c = omega (arith, spot (c .before .before .before .before .before) .column)
+
+slice-write-cursors : tie.Need-slice-write-cursors Inv-loop μ-loop
+slice-write-cursors c =
+    omega (arith, spot (c .before .before .before .before .before) .column, c .before .before .before .before .before .before .loop .inv .1 .long)
+
+add-k : tie.Need-add-k Inv-loop μ-loop
+add-k c = omega (arith, c .before .before .before .before .before .before .before .before .before .before .before .pre .0 .sized .sizes .rho-most)
+
+loop-less : tie.Need-loop-less Inv-loop μ-loop
+loop-less c = omega arith
+
+loop-again : tie.Need-loop-again Inv-loop μ-loop
+loop-again c =
+    let s = c .before .before .before .before .before .before .before .before .before .before .before in
+    let l = c .before .before .before .before .before .before .loop in (
+      omega arith,
+      cursors-next (lent s) (s .pre .0) (s .args .i) (s .pre .1) (l .k) (omega arith) (l .cursors) (l .inv .1),
+      row-more (lent s) (s .args .index .now) (s .args .i) (l .k) (l .inv .2)
+          (row-standing (lent s) (s .args .index .now) (s .args .i) (l .k) _ (reached _ _ (spot (c .before .before .before .before .before) .cursor))
+          (c .before .stands .result) (c .before .stands .ensures) (not-false _ (c .if1 .left))),
+    )
+
+same-length-2 : tie.Need-same-length-2 Inv-loop μ-loop
+same-length-2 c = c .before .loop .inv .1 .long ∙ sym (c .before .before .before .before .before .before .pre .2 .long)
+
+returns-2 : tie.Need-returns-2 Inv-loop μ-loop
+returns-2 c =
+    let s = c .before .before .before .before .before .before in
+    let l = c .before .loop in
+    let e : l .k ≡ s .args .shape .rho = le-antisymm (l .inv .0) (omega arith) in
+    record {
+      so = λ y. (cursors-row (lent s) (s .pre .0) (s .args .i) (s .pre .1) (l .cursors) (rw e at (l .inv .1)), rw e at (l .inv .2));
+      not-so = λ n. absurd (never n);
+    }
+
+pub row-stands-spec : {M : Type 1} → statement M
+row-stands-spec =
+    tie.close
+    (tie.spec
+    Inv-loop
+    μ-loop
+    cast-rho
+    loop-holds
+    cast-base
+    add-base
+    mul-j
+    add-j
+    mul-j-2
+    shared-slice-read-j
+    cast-j
+    mul-c
+    slice-read-c
+    cast-c
+    add-stands
+    cast-stands
+    stands-requires
+    same-length
+    returns
+    add-cursors
+    cast-cursors
+    mul-cursors
+    slice-write-cursors
+    add-k
+    loop-less
+    loop-again
+    same-length-2
+    returns-2)

@@ -1,0 +1,2 @@
+-- What the contracts of `matrix_index_replay` cite.
+pub mod Replay
