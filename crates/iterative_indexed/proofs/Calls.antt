@@ -1,6 +1,5 @@
 -- The answer of the call that takes an index, by what is asked before it.
---   refused-matrix     == the matrix is refused: the check's number and place
---   refused-index      == the index is refused
+--   refused-either     == the matrix or the index is refused: the number and place
 --   verdict-alike      == with the matrix's own index it asks what iterative voting asks
 --   says-alike         == and says what iterative voting says
 --   answered-own       == it is the matrix's own: what iterative voting answers
@@ -21,11 +20,9 @@ use Rattle.answers.specs.Paper.Answers.{Verdict, accepted, refused, Said, refus
 use Rattle.packed_word.specs.Paper.Packed.{bytesFor}
 use Rattle.matrix.specs.Paper.Code.{Matrix}
 use Rattle.matrix.specs.Paper.Check.{checkOf}
-use Rattle.matrix.specs.Paper.PlainCheck.{Accepted}
-use Rattle.matrix.proofs.PlainCheck.{is-accepted}
-use Rattle.matrix_index.specs.Paper.Index.{indexOf, ownVerdict}
+use Rattle.matrix_index.specs.Paper.Index.{indexOf}
 use Rattle.matrix_index_check.specs.Paper.Call.{indexedVerdict}
-use Rattle.matrix_index_check.proofs.Claims.{numbered, step-number, own-alike, ten-else, ten-only}
+use Rattle.matrix_index_check.proofs.Claims.{numbered, step-number, own-alike, ten-else, ten-only, one-refused}
 use Rattle.quantiser_levels.specs.Paper.Samples.{Setting, settingFits, hardBit, firstNotFinite}
 use Rattle.iterative_core.specs.Paper.Iterative.{samplesVerdict, iterativeVerdict, iterativeOf, reportAt, endFrom, iterativeWord, iterativeLevels}
 use Rattle.iterative_core.specs.Paper.Call.{IterativeAnswered}
@@ -38,16 +35,11 @@ module _ (H : Matrix) (x : List ℕ) (S : Setting) (xs : List Float) (w : List �
   unfolding iterativeIndexedOf
   kept k p said v e = record { answer = e ∙ rw v refl; word = rw v refl; levels = rw v refl }
 
-  -- the matrix is refused: the check's number and place
-  pub refused-matrix : (k p : ℕ) (said : Said) → checkOf H ≡ refused k p → said ≡ refusal k p → IterativeIndexedAnswered H x S xs said w w ls ls
-  unfolding iterativeIndexedVerdict indexedVerdict
-  refused-matrix k p said c e = kept k p said (rw c refl) e
-
-  -- the index is refused
-  pub refused-index : Accepted H → (k p : ℕ) (said : Said) → ownVerdict H x ≡ refused k p → said ≡ refusal k p
+  -- the matrix or the index is refused
+  pub refused-either : (k p : ℕ) (said : Said) → indexedVerdict H x accepted ≡ refused k p → said ≡ refusal k p
       → IterativeIndexedAnswered H x S xs said w w ls ls
-  unfolding iterativeIndexedVerdict indexedVerdict
-  refused-index a k p said v e = kept k p said (rw (is-accepted H a, v) refl) e
+  unfolding iterativeIndexedVerdict
+  refused-either k p said c e = kept k p said (one-refused H x k p c (samplesVerdict (H .n) S xs (length w) (length ls))) e
 
   -- with the matrix's own index it asks what iterative voting asks
   pub verdict-alike : x ≡ indexOf H → iterativeIndexedVerdict H x S xs (length w) (length ls) ≡ iterativeVerdict H S xs (length w) (length ls)

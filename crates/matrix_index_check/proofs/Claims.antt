@@ -9,6 +9,8 @@
 --   matrix-first      == `MatrixFirst` of every matrix
 --   ten-else          == `TenElse` of every matrix
 --   ten-only          == `TenOnly` of every matrix
+--   both-accepted     == where matrix and index are accepted the index is the matrix's own
+--   one-refused       == and where one of them is refused the call is, whatever the rest
 -- Assumes nothing.
 use mathlib.Core.Path.{_≡_, refl, sym, ap, _∙_}
 use mathlib.Core.Bool.{Bool, true, false, not}
@@ -22,7 +24,7 @@ use Rattle.counting.specs.Paper.Joined.{sameList}
 use Rattle.counting.proofs.Searches.{cases}
 use Rattle.counting.proofs.Joined.{same-list, list-same}
 use Rattle.answers.specs.Paper.Answers.{Verdict, accepted, refused, refuseIf, andThen}
-use Rattle.answers.proofs.Verdicts.{not-accepted}
+use Rattle.answers.proofs.Verdicts.{not-accepted, passed-on}
 use Rattle.matrix.specs.Paper.Code.{Matrix}
 use Rattle.matrix.specs.Paper.Check.{sizesFit, badEntry, badWeight, overlapping, listOf, checkOf}
 use Rattle.matrix_index.specs.Paper.Index.{indexOf, ownVerdict}
@@ -72,6 +74,14 @@ accepted-own H x e =
     cases (sameList x (indexOf H)) (λ t. same-list x (indexOf H) t)
     (λ f. absurd (not-accepted (sym (ap (λ (b : Bool). refuseIf (not b) 10 0 accepted) f) ∙ e)))
 
+-- ---- chains
+
+-- a chain that refuses before its end refuses so whatever the end is
+refuses-both : (v w rest : Verdict) {k p : ℕ} → andThen v (andThen w accepted) ≡ refused k p → andThen v (andThen w rest) ≡ refused k p
+refuses-both accepted accepted rest e = absurd (not-accepted (sym e))
+refuses-both accepted (refused k p) rest e = e
+refuses-both (refused k p) w rest e = e
+
 -- ---- calls that take matrix and index
 
 -- with the matrix's own index: what the call without an index asks
@@ -101,3 +111,15 @@ unfolding indexedVerdict
 ten-only H x rest p none e =
     let c = passes (checkOf H) (andThen (ownVerdict H x) rest) p (check-below H) e in
     (c .0, λ q. none p (sym (ap (λ (v : Verdict). andThen v rest) (own-accepts H x q)) ∙ c .1))
+
+-- where matrix and index are accepted the index is the matrix's own
+pub both-accepted : (H : Matrix) (x : List ℕ) → indexedVerdict H x accepted ≡ accepted → (checkOf H ≡ accepted) × (x ≡ indexOf H)
+unfolding indexedVerdict
+both-accepted H x e =
+    let c = passed-on (checkOf H) (andThen (ownVerdict H x) accepted) e in
+    (c .0, accepted-own H x (passed-on (ownVerdict H x) accepted (c .1) .0))
+
+-- and where one of them is refused the call is, whatever the rest
+pub one-refused : (H : Matrix) (x : List ℕ) (k p : ℕ) → indexedVerdict H x accepted ≡ refused k p → (rest : Verdict) → indexedVerdict H x rest ≡ refused k p
+unfolding indexedVerdict
+one-refused H x k p e rest = refuses-both (checkOf H) (ownVerdict H x) rest e

@@ -1,3 +1,2 @@
-pub mod Comparison
 pub mod Answers
 pub mod Claims

@@ -1,3 +1,3 @@
 -- What the contracts of `matrix_index_check` cite.
 pub mod Paper
-pub mod Compared
+pub mod Agree

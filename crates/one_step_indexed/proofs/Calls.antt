@@ -1,6 +1,5 @@
 -- The answer of the call that takes an index, by what is asked before it.
---   refused-matrix     == the matrix is refused: the check's number and place
---   refused-index      == the index is refused
+--   refused-either     == the matrix or the index is refused: the number and place
 --   verdict-alike      == with the matrix's own index it asks what one-step voting asks
 --   says-alike         == and says what one-step voting says
 --   answered-own       == it is the matrix's own: what one-step voting answers
@@ -17,11 +16,9 @@ use Rattle.answers.specs.Paper.Answers.{Verdict, accepted, refused, Said, refus
 use Rattle.packed_word.specs.Paper.Packed.{bitAt, bytesFor, spareSet}
 use Rattle.matrix.specs.Paper.Code.{Matrix}
 use Rattle.matrix.specs.Paper.Check.{checkOf}
-use Rattle.matrix.specs.Paper.PlainCheck.{Accepted}
-use Rattle.matrix.proofs.PlainCheck.{is-accepted}
-use Rattle.matrix_index.specs.Paper.Index.{indexOf, ownVerdict}
+use Rattle.matrix_index.specs.Paper.Index.{indexOf}
 use Rattle.matrix_index_check.specs.Paper.Call.{indexedVerdict}
-use Rattle.matrix_index_check.proofs.Claims.{numbered, step-number, own-alike, ten-else, ten-only}
+use Rattle.matrix_index_check.proofs.Claims.{numbered, step-number, own-alike, ten-else, ten-only, one-refused}
 use Rattle.syndrome.specs.Paper.Failing.{wordVerdict}
 use Rattle.majority_logic.specs.Paper.OneStep.{oneStepVerdict, oneStepOf, oneStepReport, oneStepWord}
 use Rattle.one_step_core.specs.Paper.Call.{OneStepAnswered}
@@ -33,15 +30,10 @@ module _ (H : Matrix) (x w old : List ℕ) where
   unfolding oneStepIndexedOf
   kept k p said v e = record { says = e ∙ rw v refl; word = rw v refl }
 
-  -- the matrix is refused: the check's number and place
-  pub refused-matrix : (k p : ℕ) (said : Said) → checkOf H ≡ refused k p → said ≡ refusal k p → OneStepIndexedAnswered H x w old old said
-  unfolding oneStepIndexedVerdict indexedVerdict
-  refused-matrix k p said c e = kept k p said (rw c refl) e
-
-  -- the index is refused
-  pub refused-index : Accepted H → (k p : ℕ) (said : Said) → ownVerdict H x ≡ refused k p → said ≡ refusal k p → OneStepIndexedAnswered H x w old old said
-  unfolding oneStepIndexedVerdict indexedVerdict
-  refused-index a k p said v e = kept k p said (rw (is-accepted H a, v) refl) e
+  -- the matrix or the index is refused
+  pub refused-either : (k p : ℕ) (said : Said) → indexedVerdict H x accepted ≡ refused k p → said ≡ refusal k p → OneStepIndexedAnswered H x w old old said
+  unfolding oneStepIndexedVerdict
+  refused-either k p said c e = kept k p said (one-refused H x k p c (wordVerdict (H .n) w (length old) (H .n))) e
 
   -- with the matrix's own index it asks what one-step voting asks
   pub verdict-alike : x ≡ indexOf H → oneStepIndexedVerdict H x w (length old) ≡ oneStepVerdict H w (length old)

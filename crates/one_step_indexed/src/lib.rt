@@ -80,24 +80,6 @@ fn on_own(shape: Shape, list: &[u16], index: &[u16], received: &[u8], word: &mut
     }
 }
 
-// Refusal 10, then what follows with the matrix's own index.
-fn on_accepted(
-    shape: Shape,
-    list: &[u16],
-    index: &[u16],
-    received: &[u8],
-    word: &mut [u8],
-) -> Answer
-    requires { ⌜ Accepted (matrixOf shape (now list)) ⌝ }
-    ensures { λ r. ⌜ OneStepIndexedAnswered (matrixOf shape (now (list .entry))) (now (index .entry)) (now (received .entry)) (now (word .entry)) (now (word .exit)) (saidOf r) ⌝ }
-{
-    let asked = matrix_index_check::ask_own(shape, list, index);
-    match asked {
-        Checked::Accepted => on_own(shape, list, index, received, word),
-        Checked::Refused(f) => Answer::Refused(f),
-    }
-}
-
 // One-step voting on a received word, by matrix and index. The word is written in either outcome; a refused call writes nothing.
 pub fn one_step_indexed(
     shape: Shape,
@@ -109,8 +91,8 @@ pub fn one_step_indexed(
     ensures answer { λ r. ⌜ OneStepIndexedAnswered (matrixOf shape (now (list .entry))) (now (index .entry)) (now (received .entry)) (now (word .entry)) (now (word .exit)) (saidOf r) ⌝ }
     ensures alike { λ r. ⌜ (now (index .entry) ≡ indexOf (matrixOf shape (now (list .entry))) → OneStepAnswered (matrixOf shape (now (list .entry))) (now (received .entry)) (now (word .entry)) (now (word .exit)) (saidOf r)) ⌝ }
 {
-    match matrix_check::check(shape, list) {
-        Checked::Accepted => on_accepted(shape, list, index, received, word),
+    match matrix_index_check::check_indexed(shape, list, index) {
+        Checked::Accepted => on_own(shape, list, index, received, word),
         Checked::Refused(f) => Answer::Refused(f),
     }
 }

@@ -1,0 +1,2 @@
+-- What the contracts of `matrix_order` cite.
+pub mod Order
