@@ -24,6 +24,17 @@ fn odd_rows(index: &[u16], from: usize, count: usize, parity: &[u8; 1023]) -> u8
     v
 }
 
+// The same, with the loop laid out for columns of three rows.
+fn odd_among(index: &[u16], from: usize, count: usize, parity: &[u8; 1023]) -> u8
+    requires { ⌜ Part (now index) from count × (count ≤ 255) × Bits (now parity) ⌝ }
+    ensures { λ r. ⌜ r ≡ onesAt (now (index .entry)) from count (at (now (parity .entry))) ⌝ }
+{
+    if count == 3 {
+        return odd_rows(index, from, 3, parity);
+    }
+    odd_rows(index, from, count, parity)
+}
+
 // The votes on bit j: its failing checks.
 fn votes_on(index: &[u16], n: usize, j: usize, parity: &[u8; 1023]) -> u8
     requires { ⌜ Columns (now index) n × FewRows (now index) n × (j < n) × Bits (now parity) ⌝ }
@@ -31,7 +42,7 @@ fn votes_on(index: &[u16], n: usize, j: usize, parity: &[u8; 1023]) -> u8
 {
     let from = index[j] as usize;
     let to = index[j + 1] as usize;
-    odd_rows(index, n + 1 + from, to - from, parity)
+    odd_among(index, n + 1 + from, to - from, parity)
 }
 
 // The votes on the first n bits. The cells past them stay.

@@ -27,24 +27,24 @@ shared-slice-read-to c = search needs
 cast-to : tie.Need-cast-to
 cast-to c = let s = c .before .before .before in omega (arith, s .pre .0 .part (s .args .j) (s .pre .2) .short, s .pre .0 .rises (s .args .j) (s .pre .2))
 
-add-odd-rows : tie.Need-add-odd-rows
-add-odd-rows c = search needs
+add-odd-among : tie.Need-add-odd-among
+add-odd-among c = search needs
 
-add-odd-rows-2 : tie.Need-add-odd-rows-2
-add-odd-rows-2 c = let s = c .before .before .before in omega (arith, s .pre .0 .part (s .args .j) (s .pre .2) .short)
+add-odd-among-2 : tie.Need-add-odd-among-2
+add-odd-among-2 c = let s = c .before .before .before in omega (arith, s .pre .0 .part (s .args .j) (s .pre .2) .short)
 
-sub-odd-rows : tie.Need-sub-odd-rows
-sub-odd-rows c = let s = c .before .before .before in s .pre .0 .rises (s .args .j) (s .pre .2)
+sub-odd-among : tie.Need-sub-odd-among
+sub-odd-among c = let s = c .before .before .before in s .pre .0 .rises (s .args .j) (s .pre .2)
 
-odd-rows-requires : tie.Need-odd-rows-requires
-odd-rows-requires c κs =
+odd-among-requires : tie.Need-odd-among-requires
+odd-among-requires c κs =
     let s = c .before .before .before in
     (s .pre .0 .part (s .args .j) (s .pre .2), few-at (s .args .index .now) (s .args .n) (s .args .j) (s .pre .1) (s .pre .2), s .pre .3)
 
 returns : tie.Need-returns
 returns c =
     let a = c .before .before .before .before .args in
-    votes-is (a .index .now) (a .n) (a .j) (c .odd-rows .result) (at (a .parity .now)) (c .odd-rows .ensures)
+    votes-is (a .index .now) (a .n) (a .j) (c .odd-among .result) (at (a .parity .now)) (c .odd-among .ensures)
 
 pub votes-on-spec : {M : Type 1} → statement M
 votes-on-spec =
@@ -57,8 +57,8 @@ votes-on-spec =
     mul-to
     shared-slice-read-to
     cast-to
-    add-odd-rows
-    add-odd-rows-2
-    sub-odd-rows
-    odd-rows-requires
+    add-odd-among
+    add-odd-among-2
+    sub-odd-among
+    odd-among-requires
     returns)
