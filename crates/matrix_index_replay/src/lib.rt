@@ -9,6 +9,7 @@ ghost use lib.Dec.{ltb, eqb};
 ghost use lib.ListN.{length};
 ghost use Rattle.counting.specs.Paper.Sum.{unequal};
 ghost use Rattle.counting.specs.Places.{at};
+ghost use Rattle.matrix.specs.Paper.Code.{matrix};
 ghost use Rattle.matrix.specs.Ordered.{Ordered};
 ghost use Rattle.matrix.specs.Paper.Shapes.{matrixOf};
 ghost use Rattle.matrix_index.specs.Filling.{Cursors};
@@ -46,12 +47,18 @@ fn stands(index: &[u16], p: usize, i: u16) -> bool
     index[p] == i
 }
 
-// Whether row i stands at all of its places. The cursors move on as if it were placed.
-fn row_stands(shape: Shape, list: &[u16], i: usize, cursors: &mut [u16], index: &[u16]) -> bool
-    requires { ⌜ Ordered (matrixOf shape (now list)) × (i < shape .m) × Cursors (matrixOf shape (now list)) i 0 (now cursors) ⌝ }
-    ensures { λ r. ⌜ RowReplayed (matrixOf shape (now (list .entry))) i (now (index .entry)) (now (cursors .exit)) r ⌝ }
+// Whether row i of rho entries stands at all of its places. The cursors move on as if it were placed.
+fn row_stands(
+    shape: Shape,
+    rho: usize,
+    list: &[u16],
+    i: usize,
+    cursors: &mut [u16],
+    index: &[u16],
+) -> bool
+    requires { ⌜ Ordered (matrix (shape .n) (shape .m) rho (shape .gamma) (now list)) × (i < shape .m) × Cursors (matrix (shape .n) (shape .m) rho (shape .gamma) (now list)) i 0 (now cursors) ⌝ }
+    ensures { λ r. ⌜ RowReplayed (matrix (shape .n) (shape .m) rho (shape .gamma) (now (list .entry))) i (now (index .entry)) (now (cursors .exit)) r ⌝ }
 {
-    let rho = shape.rho as usize;
     let mut k = 0;
     while k < rho {
         let base = (shape.n as usize) + 1;
@@ -66,6 +73,24 @@ fn row_stands(shape: Shape, list: &[u16], i: usize, cursors: &mut [u16], index: 
     true
 }
 
+// The same, with the loop laid out for rows of five.
+fn row_laid_out(
+    shape: Shape,
+    list: &[u16],
+    i: usize,
+    cursors: &mut [u16],
+    index: &[u16],
+) -> bool
+    requires { ⌜ Ordered (matrixOf shape (now list)) × (i < shape .m) × Cursors (matrixOf shape (now list)) i 0 (now cursors) ⌝ }
+    ensures { λ r. ⌜ RowReplayed (matrixOf shape (now (list .entry))) i (now (index .entry)) (now (cursors .exit)) r ⌝ }
+{
+    let rho = shape.rho as usize;
+    if rho == 5 {
+        return row_stands(shape, 5, list, i, cursors, index);
+    }
+    row_stands(shape, rho, list, i, cursors, index)
+}
+
 // Whether all rows do, and each column's part is full then: it has gamma ones.
 fn rows_stand(shape: Shape, list: &[u16], index: &[u16]) -> bool
     requires { ⌜ Ordered (matrixOf shape (now list)) ⌝ }
@@ -78,7 +103,7 @@ fn rows_stand(shape: Shape, list: &[u16], index: &[u16]) -> bool
     matrix_index::put_starts(n, gamma, &mut cursors);
     let mut i = 0;
     while i < m {
-        if !row_stands(shape, list, i, &mut cursors, index) {
+        if !row_laid_out(shape, list, i, &mut cursors, index) {
             return false;
         }
         i += 1;

@@ -6,8 +6,7 @@ use native.Mathlib.Nat.{le-antisymm}
 use native.Mathlib.Omega.{arith}
 use borrow.Author.Tests.{not-true, not-false}
 use Rattle.counting.proofs.Searches.{never}
-use Rattle.matrix.specs.Paper.Code.{Matrix}
-use Rattle.matrix.specs.Paper.Shapes.{matrixOf}
+use Rattle.matrix.specs.Paper.Code.{Matrix, matrix}
 use Rattle.matrix_index.specs.Filling.{Cursors}
 use Rattle.matrix_index.proofs.Cursors.{Spot, spot-of, reached, cursors-next, cursors-row}
 use Rattle.matrix_index_replay.specs.Replay.{Stands}
@@ -16,36 +15,33 @@ use Rattle.matrix_index_replay.proofs.row_stands.Statement.{statement}
 use Rattle.matrix_index_replay.proofs.row_stands.Tie as tie
 
 abbrev Inv-loop : tie.InvT-loop
-Inv-loop shape list i cursors₀ index rho k₀ cursors k =
-    (k ≤ rho) × Cursors (matrixOf shape list) i k cursors × ((q : ℕ) → q < k → Stands (matrixOf shape list) index i q)
+Inv-loop shape rho list i cursors₀ index k₀ cursors k =
+    let H = matrix (shape .n) (shape .m) rho (shape .gamma) list in (k ≤ rho) × Cursors H i k cursors × ((q : ℕ) → q < k → Stands H index i q)
 
 abbrev μ-loop : tie.MeasureT-loop
-μ-loop shape list i cursors₀ index rho k₀ cursors k = rho - k
+μ-loop shape rho list i cursors₀ index k₀ cursors k = rho - k
 
 -- the matrix that is lent
 abbrev lent : tie.Start Inv-loop μ-loop → Matrix
-lent s = matrixOf (s .args .shape) (s .args .list .now)
+lent s = matrix (s .args .shape .n) (s .args .shape .m) (s .args .rho) (s .args .shape .gamma) (s .args .list .now)
 
 -- where the next entry goes, once there is one
 spot : (c : tie.In-loop Inv-loop μ-loop)
-    → Spot (lent (c .before .before .before .before .before .before)) (c .before .before .before .before .before .before .args .i) (c .before .loop .k)
+    → Spot (lent (c .before .before .before .before .before)) (c .before .before .before .before .before .args .i) (c .before .loop .k)
     (c .before .loop .cursors)
 spot c =
-    let s = c .before .before .before .before .before .before in
+    let s = c .before .before .before .before .before in
     let l = c .before .loop in
     spot-of (lent s) (s .pre .0) (s .args .i) (s .pre .1) (l .k) (omega arith) (l .cursors) (l .inv .1)
 
-cast-rho : tie.Need-cast-rho Inv-loop μ-loop
-cast-rho c = omega (arith, c .before .before .before .before .pre .0 .sized .sizes .rho-most)
-
 loop-holds : tie.Need-loop-holds Inv-loop μ-loop
-loop-holds c = let s = c .before .before .before .before in (omega arith, s .pre .2, λ q l. absurd (omega arith))
+loop-holds c = let s = c .before .before .before in (omega arith, s .pre .2, λ q l. absurd (omega arith))
 
 cast-base : tie.Need-cast-base Inv-loop μ-loop
-cast-base c = omega (arith, c .before .before .before .before .before .before .before .pre .0 .sized .sizes .n-most)
+cast-base c = omega (arith, c .before .before .before .before .before .before .pre .0 .sized .sizes .n-most)
 
 add-base : tie.Need-add-base Inv-loop μ-loop
-add-base c = omega (arith, c .before .before .before .before .before .before .before .pre .0 .sized .sizes .n-most)
+add-base c = omega (arith, c .before .before .before .before .before .before .pre .0 .sized .sizes .n-most)
 
 mul-j : tie.Need-mul-j Inv-loop μ-loop
 mul-j c = omega (arith, spot (c .before) .few)
@@ -73,10 +69,10 @@ cast-c c = omega (arith, spot (c .before .before .before) .low)
 
 add-stands : tie.Need-add-stands Inv-loop μ-loop
 add-stands c =
-    omega (arith, spot (c .before .before .before) .low, c .before .before .before .before .before .before .before .before .before .pre .0 .sized .sizes .n-most)
+    omega (arith, spot (c .before .before .before) .low, c .before .before .before .before .before .before .before .before .pre .0 .sized .sizes .n-most)
 
 cast-stands : tie.Need-cast-stands Inv-loop μ-loop
-cast-stands c = let s = c .before .before .before .before .before .before .before .before .before in omega (arith, s .pre .1, s .pre .0 .sized .sizes .m-most)
+cast-stands c = let s = c .before .before .before .before .before .before .before .before in omega (arith, s .pre .1, s .pre .0 .sized .sizes .m-most)
 
 stands-requires : tie.Need-stands-requires Inv-loop μ-loop
 stands-requires c κs = tt
@@ -84,11 +80,11 @@ stands-requires c κs = tt
 same-length : tie.Need-same-length Inv-loop μ-loop
 same-length c =
     c .before .before .before .before .before .before .loop .inv .1 .long
-    ∙ sym (c .before .before .before .before .before .before .before .before .before .before .before .pre .2 .long)
+    ∙ sym (c .before .before .before .before .before .before .before .before .before .before .pre .2 .long)
 
 returns : tie.Need-returns Inv-loop μ-loop
 returns c =
-    let s = c .before .before .before .before .before .before .before .before .before .before .before in
+    let s = c .before .before .before .before .before .before .before .before .before .before in
     let l = c .before .before .before .before .before .before .loop in
     record {
       so = λ e. absurd (never (sym e));
@@ -113,14 +109,14 @@ slice-write-cursors c =
     omega (arith, spot (c .before .before .before .before .before) .column, c .before .before .before .before .before .before .loop .inv .1 .long)
 
 add-k : tie.Need-add-k Inv-loop μ-loop
-add-k c = omega (arith, c .before .before .before .before .before .before .before .before .before .before .before .pre .0 .sized .sizes .rho-most)
+add-k c = omega (arith, c .before .before .before .before .before .before .before .before .before .before .pre .0 .sized .sizes .rho-most)
 
 loop-less : tie.Need-loop-less Inv-loop μ-loop
 loop-less c = omega arith
 
 loop-again : tie.Need-loop-again Inv-loop μ-loop
 loop-again c =
-    let s = c .before .before .before .before .before .before .before .before .before .before .before in
+    let s = c .before .before .before .before .before .before .before .before .before .before in
     let l = c .before .before .before .before .before .before .loop in (
       omega arith,
       cursors-next (lent s) (s .pre .0) (s .args .i) (s .pre .1) (l .k) (omega arith) (l .cursors) (l .inv .1),
@@ -130,13 +126,13 @@ loop-again c =
     )
 
 same-length-2 : tie.Need-same-length-2 Inv-loop μ-loop
-same-length-2 c = c .before .loop .inv .1 .long ∙ sym (c .before .before .before .before .before .before .pre .2 .long)
+same-length-2 c = c .before .loop .inv .1 .long ∙ sym (c .before .before .before .before .before .pre .2 .long)
 
 returns-2 : tie.Need-returns-2 Inv-loop μ-loop
 returns-2 c =
-    let s = c .before .before .before .before .before .before in
+    let s = c .before .before .before .before .before in
     let l = c .before .loop in
-    let e : l .k ≡ s .args .shape .rho = le-antisymm (l .inv .0) (omega arith) in
+    let e : l .k ≡ s .args .rho = le-antisymm (l .inv .0) (omega arith) in
     record {
       so = λ y. (cursors-row (lent s) (s .pre .0) (s .args .i) (s .pre .1) (l .cursors) (rw e at (l .inv .1)), rw e at (l .inv .2));
       not-so = λ n. absurd (never n);
@@ -148,7 +144,6 @@ row-stands-spec =
     (tie.spec
     Inv-loop
     μ-loop
-    cast-rho
     loop-holds
     cast-base
     add-base

@@ -47,11 +47,11 @@ loop-holds c =
     let s = c .before .before .before .before .before .before .before .before in
     (omega arith, cursors-none (lent s) (s .pre) _ (c .before .put-starts .ensures), λ r l. absurd (omega arith))
 
-slice-aggregate-row-stands : tie.Need-slice-aggregate-row-stands Inv-loop μ-loop
-slice-aggregate-row-stands c = sym (c .before .before .loop .inv .1 .long)
+slice-aggregate-row-laid-out : tie.Need-slice-aggregate-row-laid-out Inv-loop μ-loop
+slice-aggregate-row-laid-out c = sym (c .before .before .loop .inv .1 .long)
 
-row-stands-requires : tie.Need-row-stands-requires Inv-loop μ-loop
-row-stands-requires c κs =
+row-laid-out-requires : tie.Need-row-laid-out-requires Inv-loop μ-loop
+row-laid-out-requires c κs =
     let s = c .before .before .before .before .before .before .before .before .before .before .before in
     (s .pre, omega arith, c .before .before .loop .inv .1)
 
@@ -60,7 +60,7 @@ returns c =
     let l = c .before .before .before .before .before .loop in
     record {
       so = λ e. absurd (never (sym e));
-      not-so = λ e all full. c .before .before .row-stands .ensures .not-so (not-true _ (c .if1 .taken)) (all (l .i) (omega arith));
+      not-so = λ e all full. c .before .before .row-laid-out .ensures .not-so (not-true _ (c .if1 .taken)) (all (l .i) (omega arith));
     }
 
 add-i : tie.Need-add-i Inv-loop μ-loop
@@ -75,7 +75,7 @@ loop-again : tie.Need-loop-again Inv-loop μ-loop
 loop-again c =
     let s = c .before .before .before .before .before .before .before .before .before .before .before .before .before .before in
     let l = c .before .before .before .before .before .loop in
-    let y = c .before .before .row-stands .ensures .so (not-false _ (c .if1 .left)) in
+    let y = c .before .before .row-laid-out .ensures .so (not-false _ (c .if1 .left)) in
     (omega arith, y .0, rows-more (lent s) (s .args .index .now) (l .i) (l .inv .2) (y .1))
 
 slice-aggregate-starts-wrong : tie.Need-slice-aggregate-starts-wrong Inv-loop μ-loop
@@ -105,8 +105,8 @@ rows-stand-spec =
     slice-aggregate-put-starts
     put-starts-requires
     loop-holds
-    slice-aggregate-row-stands
-    row-stands-requires
+    slice-aggregate-row-laid-out
+    row-laid-out-requires
     returns
     add-i
     loop-less
