@@ -53,7 +53,7 @@ returns-2 c =
     let s = c .before .before .before .before .before .before .before .before .before in
     record {
       so = λ e. absurd (never (sym e));
-      not-so = λ e o. c .if2 .taken (c .before .starts-wrong .ensures ∙ starts-front (lent s) (s .args .index .now) ∙ o .starts);
+      not-so = λ e o. omega (arith, c .before .starts-wrong .ensures, starts-front (lent s) (s .args .index .now), o .starts);
     }
 
 rows-stand-requires : tie.Need-rows-stand-requires
