@@ -27,7 +27,7 @@ run: tools
 test: tools python
 	tools/gate
 
-# One archive more: the core of one-step voting, which nobody but the benchmark links.
+# One archive more: the core of one-step voting and the replay of a lent index, which nobody but the benchmark links.
 bench: tools staticlib decode
 	rt staticlib ffi_bench
 	cargo build --release --quiet -p bench --features measure

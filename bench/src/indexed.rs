@@ -4,11 +4,43 @@
 use crate::programs::cases;
 use crate::{received_words, Form, LITERAL_TURNS, WORDS};
 use bench::index;
-use ffi_face::Packed;
+use ffi_face::{LentMatrix, Packed};
 use generator::codes::Code;
 use generator::{noise, settings, Codewords, Random};
 use reference::{byte_count, index_of, Setting};
 use std::hint::black_box;
+
+// In libffi_bench.a.
+extern "C" {
+    fn mlgd_replay(
+        n: u16,
+        m: u16,
+        rho: u16,
+        gamma: u16,
+        list: *const u16,
+        list_len: usize,
+        index: *const u16,
+        index_len: usize,
+    ) -> u64;
+}
+
+/// Whether the library's replay finds a lent index to be the matrix's own.
+///
+/// # Safety
+/// The check has accepted the matrix.
+unsafe fn replay(h: LentMatrix, index: &[u16]) -> bool {
+    let own = mlgd_replay(
+        h.n,
+        h.m,
+        h.rho,
+        h.gamma,
+        h.list.as_ptr(),
+        h.list.len(),
+        index.as_ptr(),
+        index.len(),
+    );
+    own == 1
+}
 
 /// The best times of forms that take turns, each time beginning with another one.
 fn best_times<const COUNT: usize>(turns: usize, mut forms: [Form; COUNT]) -> [f64; COUNT] {
@@ -137,44 +169,32 @@ fn measure_iterative(code: &Code, step: f32, deviation: f64, turns: usize) {
     compare(code, "iterative voting", turns, [indexed, without]);
 }
 
-/// The library's time, as that of a call with the part less that of a call without it, and those of
-/// the forms in plain Rust.
-struct Part<const FORMS: usize> {
-    library: f64,
-    rust: [f64; FORMS],
-}
-
-/// The verifying of a lent index: calls that are refused by 7 right after it. The replays come after
-/// the call without an index, so that they meet the memory as the library's verifying does.
-fn verifying(code: &Code, own: &[u16], turns: usize) -> Part<2> {
+/// The verifying of a lent index: the library's replay, the fastest one in plain Rust and the plain
+/// one, each by itself.
+fn verifying(code: &Code, own: &[u16], turns: usize) -> [f64; 3] {
     let h = &code.matrix;
-    let with = || ffi_face::one_step_indexed(black_box(h).into(), black_box(own), &[], &mut []);
-    let call = || ffi_face::one_step(black_box(h).into(), &[], &mut []);
+    assert_eq!(ffi_face::check(h.into()), Packed(0));
     // SAFETY: the check has accepted the matrix.
+    let library = || unsafe { replay(black_box(h).into(), black_box(own)) };
+    // SAFETY: the same.
     let fastest = || unsafe { index::is_own(black_box(h), black_box(own)) };
     // SAFETY: the same.
     let plain = || unsafe { index::is_own_plain(black_box(h), black_box(own)) };
-    assert_eq!([with(), call()], [Packed::new(7 * 65536, 0, 0, 0); 2]);
-    assert!(fastest() && plain());
-    let with = Form::new(1, || {
-        black_box(with());
-    });
-    let without = Form::new(1, || {
-        black_box(call());
+    assert!(library() && fastest() && plain(), "{}", code.name);
+    let library = Form::new(1, || {
+        black_box(library());
     });
     let fastest = Form::new(1, || {
-        black_box((call(), fastest()));
+        black_box(fastest());
     });
     let plain = Form::new(1, || {
-        black_box((call(), plain()));
+        black_box(plain());
     });
-    let [with, without, rust @ ..] = best_times(turns, [with, without, fastest, plain]);
-    let (library, rust) = (with - without, rust.map(|form| form - without));
-    Part { library, rust }
+    best_times(turns, [library, fastest, plain])
 }
 
-/// The building: the call less the matrix check, which it begins with.
-fn building(code: &Code, own: &[u16], turns: usize) -> Part<1> {
+/// The building: the library's call less the matrix check, which it begins with, and plain Rust.
+fn building(code: &Code, own: &[u16], turns: usize) -> [f64; 2] {
     let h = &code.matrix;
     let (mut to, mut other) = (vec![0; own.len()], vec![0; own.len()]);
     assert_eq!(ffi_face::index(h.into(), &mut to), Packed(0));
@@ -191,29 +211,25 @@ fn building(code: &Code, own: &[u16], turns: usize) -> Part<1> {
         // SAFETY: as above.
         unsafe { index::build(black_box(h), black_box(&mut other)) };
     });
-    let [with, without, rust @ ..] = best_times(turns, [with, without, rust]);
-    let library = with - without;
-    Part { library, rust }
+    let [with, without, rust] = best_times(turns, [with, without, rust]);
+    [with - without, rust]
 }
 
 fn measure_parts(code: &Code, turns: usize) {
     let own = index_of(&code.matrix);
-    let verified = verifying(code, &own, turns);
-    let built = building(code, &own, turns);
+    let [verifying, fastest, plain] = verifying(code, &own, turns);
+    let [building, rust] = building(code, &own, turns);
     let literal = Form::new(1, || {
         assert!(index_of(black_box(&code.matrix)) == own);
     });
     let [literal] = best_times(LITERAL_TURNS, [literal]);
-    let ([fastest, plain], [rust]) = (verified.rust, built.rust);
     println!(
-        "| {} | {:.2} | {:.2} | {:.2} | {:.0} | {:.2} | {fastest:.2} | {plain:.2} | {:.2} | {rust:.2} | {literal:.1} |",
+        "| {} | {:.2} | {:.2} | {:.2} | {:.0} | {verifying:.2} | {fastest:.2} | {plain:.2} | {building:.2} | {rust:.2} | {literal:.1} |",
         code.name,
-        verified.library / fastest,
-        verified.library / plain,
-        built.library / rust,
+        verifying / fastest,
+        verifying / plain,
+        building / rust,
         literal / fastest,
-        verified.library,
-        built.library,
     );
 }
 
@@ -233,15 +249,15 @@ pub fn measure(turns: usize) {
     }
     println!();
     println!(
-        "The parts alone. Verifying: one-step voting that is refused by 7, lent the own index, less the \
-         same without an index. Building: the call less the matrix check. In plain Rust, no bounds \
-         checks: a cursor for each column and the rows walked once, each number compared (the replay) \
-         or written. A replay comes after the call without an index, whose time is taken off, so that \
-         it meets the memory as the verifying does. Fastest replay: no branch within a row, the differences ORed and looked at after \
-         it. Plain replay: as C has it, each number compared by a branch that ends the replay at the \
-         first difference. The forms of each part take turns, and the best of {turns} turns of each \
-         counts. Literal: all rows searched for each column and the lists compared, the best of \
-         {LITERAL_TURNS}."
+        "The parts alone. Verifying: the library's replay of the own index on an accepted matrix, by \
+         itself; the weights of the columns, which it finds on its way, are in it. Building: the call \
+         less the matrix check. In plain Rust, no bounds checks: a cursor for each column and the rows \
+         walked once, each number compared (the replay) or written. Fastest replay: no branch within a \
+         row, the differences ORed and looked at after it. Plain replay: as C has it, each number \
+         compared by a branch that ends the replay at the first difference. The forms of each part \
+         take turns, the three replays on the same matrix and index, and the best of {turns} turns of \
+         each counts; a turn is the mean of as many calls as take a millisecond. Literal: all rows \
+         searched for each column and the lists compared, the best of {LITERAL_TURNS}."
     );
     println!();
     println!("| code | verifying / fastest replay | verifying / plain replay | building / Rust | literal / fastest replay | verifying µs | fastest replay µs | plain replay µs | building µs | Rust µs | literal µs |");
