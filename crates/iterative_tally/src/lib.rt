@@ -11,7 +11,7 @@ ghost use Rattle.syndrome_update.specs.Parities.{Parities};
 ghost use Rattle.iterative_tally.specs.Retally.{RenewedBy, Retallied};
 
 // The parities of the word `before` become those of the word `bits`: the rows of the flipped bits' columns are turned over,
-// or all rows are done anew where that is less work, as a flip of one row costs more than its share of a row done anew.
+// or all rows are done anew where that is less work: with few rows a column, to reach the column costs more than its rows.
 // The flipped bits are listed at the front of `places`.
 fn renew(
     shape: Shape,
@@ -30,7 +30,7 @@ fn renew(
     let m = shape.m as usize;
     let rho = shape.rho as usize;
     let flipped = syndrome_update::list_flips(n, before, bits, places);
-    if n < 4 * flipped {
+    if (shape.gamma < 8) & (n < 4 * flipped) {
         syndrome::row_parities(list, m, rho, bits, parity);
         return;
     }

@@ -37,13 +37,13 @@ mul-if1 c = search needs
 
 row-parities-requires : tie.Need-row-parities-requires
 row-parities-requires c κs =
-    let s = c .before .before .before .before .before .before .before .before .before in
+    let s = c .before .before .before .before .before .before .before .before .before .before in
     (checks (lent s) (s .pre .0 .0) (at (s .args .bits .now)) (s .pre .1 .1), s .pre .1 .2 .bits .long)
 
 returns : tie.Need-returns
 returns c =
-    let s = c .before .before .before .before .before .before .before .before .before .before in
-    let f = c .before .before .before .list-flips in record {
+    let s = c .before .before .before .before .before .before .before .before .before .before .before in
+    let f = c .before .before .before .before .list-flips in record {
       renewed = rows-renewed (lent s) (at (s .args .bits .now)) (s .args .parity .now) (c .row-parities .last .1 .1 .1 .1 .0)
           (s .pre .0 .0 .sizes .m-most) (s .pre .1 .2 .bits) (c .row-parities .ensures);
       flips = f .result;
@@ -52,8 +52,8 @@ returns c =
 
 turn-listed-requires : tie.Need-turn-listed-requires
 turn-listed-requires c κs =
-    let s = c .before .before .before .before .before .before .before .before .before .before in
-    let f = c .before .before .before .list-flips in (
+    let s = c .before .before .before .before .before .before .before .before .before .before .before in
+    let f = c .before .before .before .before .list-flips in (
       columns (lent s) (s .pre .0 .0) (s .args .index .now) (s .pre .0 .1),
       omega (arith, f .ensures .places .few, s .pre .0 .0 .sizes .n-most),
       f .ensures .places .below,
@@ -62,8 +62,8 @@ turn-listed-requires c κs =
 
 returns-2 : tie.Need-returns-2
 returns-2 c =
-    let s = c .before .before .before .before .before .before .before .before .before .before .before in
-    let f = c .before .before .before .before .list-flips in record {
+    let s = c .before .before .before .before .before .before .before .before .before .before .before .before in
+    let f = c .before .before .before .before .before .list-flips in record {
       renewed = turned-renewed (lent s) (s .pre .0 .0) (s .args .index .now) (s .pre .0 .1) (at (s .args .before .now)) (at (s .args .bits .now))
           (s .pre .1 .0) (s .pre .1 .1) (f .last .1 .1 .1 .0) (f .result) (f .ensures .places) (s .args .parity .now)
           (c .turn-listed .last .1 .1 .1 .1 .0) (s .pre .1 .2) (c .turn-listed .ensures);
