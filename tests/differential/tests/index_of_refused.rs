@@ -82,6 +82,9 @@ fn lists_that_follow_a_changed_matrix() {
         seen[number as usize] += 1;
     }
     for number in [0, 2, 3, 4, 5] {
-        assert!(seen[number] > 0, "refusal {number} was not reached: {seen:?}");
+        assert!(
+            seen[number] > 0,
+            "refusal {number} was not reached: {seen:?}"
+        );
     }
 }
