@@ -26,7 +26,7 @@ use Rattle.counting.specs.Places.{at}
 use Rattle.counting.proofs.Searches.{never, and-left, and-right, and-both}
 use Rattle.counting.proofs.Sums.{sum-zero, sum-bound, sum-term, differ-le, differ-zero, differ-eq}
 use Rattle.matrix.specs.Paper.Code.{Matrix, weight}
-use Rattle.matrix_index.specs.Filling.{startBy, placeBy, before, inRow, Cursors}
+use Rattle.matrix_index.specs.Filling.{startBy, placeBy, inRow, Cursors}
 use Rattle.matrix_index.proofs.Parts.{before-all}
 use Rattle.matrix_index_replay.specs.Replay.{wrongStarts, Stands, RowStands, RowsReplayed}
 

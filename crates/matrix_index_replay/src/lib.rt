@@ -74,13 +74,7 @@ fn row_stands(
 }
 
 // The same, with the loop laid out for rows of five.
-fn row_laid_out(
-    shape: Shape,
-    list: &[u16],
-    i: usize,
-    cursors: &mut [u16],
-    index: &[u16],
-) -> bool
+fn row_laid_out(shape: Shape, list: &[u16], i: usize, cursors: &mut [u16], index: &[u16]) -> bool
     requires { ⌜ Ordered (matrixOf shape (now list)) × (i < shape .m) × Cursors (matrixOf shape (now list)) i 0 (now cursors) ⌝ }
     ensures { λ r. ⌜ RowReplayed (matrixOf shape (now (list .entry))) i (now (index .entry)) (now (cursors .exit)) r ⌝ }
 {

@@ -6,6 +6,7 @@ use native.Mathlib.Omega.{arith}
 use lib.ListN.{length}
 use Rattle.matrix.specs.Paper.Code.{Matrix}
 use Rattle.matrix.specs.Paper.Shapes.{matrixOf}
+use Rattle.matrix.specs.Ordered.{Ordered}
 use Rattle.matrix.proofs.Ordered.{accepted-ordered}
 use Rattle.matrix_index.specs.Filling.{Passed, rowPut}
 use Rattle.matrix_index.proofs.Cursors.{Spot, spot-of, spot-place, spot-inside, reached, passed-none, passed-step, passed-row}
@@ -24,23 +25,26 @@ abbrev μ-loop : tie.MeasureT-loop
 abbrev lent : tie.Start Inv-loop μ-loop → Matrix
 lent s = matrixOf (s .args .shape) (s .args .list .now)
 
+-- its rows are in order
+ordered : (s : tie.Start Inv-loop μ-loop) → Ordered (lent s)
+ordered s = accepted-ordered (lent s) (s .pre .0)
+
 -- where the next entry goes, once there is one
 spot : (c : tie.In-loop Inv-loop μ-loop)
     → Spot (lent (c .before .before .before)) (c .before .before .before .args .i) (c .before .loop .k) (c .before .loop .cursors)
 spot c =
     let s = c .before .before .before in
     let l = c .before .loop in
-    spot-of (lent s) (accepted-ordered (lent s) (s .pre .0)) (s .args .i) (s .pre .1) (l .k) (omega arith) (l .cursors) (l .inv .1 .cursors)
+    spot-of (lent s) (ordered s) (s .args .i) (s .pre .1) (l .k) (omega arith) (l .cursors) (l .inv .1 .cursors)
 
 cast-rho : tie.Need-cast-rho Inv-loop μ-loop
 cast-rho c = omega (arith, c .before .pre .0 .sizes .rho-most)
 
 loop-holds : tie.Need-loop-holds Inv-loop μ-loop
 loop-holds c =
-    let s = c .before in
-    (
+    let s = c .before in (
       omega arith,
-      passed-none (lent s) (accepted-ordered (lent s) (s .pre .0)) (s .args .i) (s .args .cursors .now) (s .pre .2),
+      passed-none (lent s) (ordered s) (s .args .i) (s .args .cursors .now) (s .pre .2),
       put-none (lent s) (s .args .i) (s .args .index .now),
     )
 
@@ -124,9 +128,10 @@ loop-again c =
     let s = c .before .before .before .before .before .before in
     let l = c .before .before .before .before .loop in (
       omega arith,
-      passed-step (lent s) (accepted-ordered (lent s) (s .pre .0)) (s .args .i) (s .pre .1) (l .k) (s .args .cursors .now) (l .cursors) (omega arith) (l .inv .1),
+      passed-step (lent s) (ordered s) (s .args .i) (s .pre .1) (l .k) (s .args .cursors .now) (l .cursors) (omega arith) (l .inv .1),
       put-next (lent s) (s .args .i) (l .k) _ (s .args .index .now) (l .index)
-          (reached _ _ (spot-place (lent s) (s .pre .0) (s .args .i) (l .k) (s .pre .1) (omega arith) (l .cursors) (spot (c .before .before .before)))) (l .inv .2),
+          (reached _ _ (spot-place (lent s) (s .pre .0) (s .args .i) (l .k) (s .pre .1) (omega arith) (l .cursors) (spot (c .before .before .before))))
+          (l .inv .2),
     )
 
 same-length : tie.Need-same-length Inv-loop μ-loop
@@ -143,7 +148,7 @@ returns c =
     let s = c .before .before .before in
     let l = c .before .loop in
     let e : l .k ≡ s .args .shape .rho = le-antisymm (l .inv .0) (omega arith) in
-    (passed-row (lent s) (accepted-ordered (lent s) (s .pre .0)) (s .args .i) (s .pre .1) (s .args .cursors .now) (l .cursors) (rw e at (l .inv .1)), rw e at (l .inv .2))
+    (passed-row (lent s) (ordered s) (s .args .i) (s .pre .1) (s .args .cursors .now) (l .cursors) (rw e at (l .inv .1)), rw e at (l .inv .2))
 
 pub place-row-spec : {M : Type 1} → statement M
 place-row-spec =

@@ -1,6 +1,5 @@
 -- `matrix_index_check::agree`: each question is asked of a matrix that has passed those before it.
-use mathlib.Core.Path.{_≡_, sym, _∙_}
-use mathlib.Core.Bool.{true, false}
+use mathlib.Core.Path.{sym, _∙_}
 use borrow.Author.Tests.{not-true, not-false}
 use Rattle.counting.proofs.Searches.{never}
 use Rattle.matrix.specs.Paper.Code.{Matrix}

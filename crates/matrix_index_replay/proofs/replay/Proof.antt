@@ -1,5 +1,5 @@
 -- `matrix_index_replay::replay`: a list of another length, with a wrong starting place or with a wrong row is not the matrix's own.
-use mathlib.Core.Path.{_≡_, sym, _∙_}
+use mathlib.Core.Path.{sym, _∙_}
 use native.Mathlib.Omega.{arith}
 use Rattle.counting.proofs.Searches.{never}
 use Rattle.matrix.specs.Paper.Code.{Matrix}

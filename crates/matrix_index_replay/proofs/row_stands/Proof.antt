@@ -1,7 +1,6 @@
 -- `matrix_index_replay::row_stands`. The loop's invariant: the row stands at the places of its first `k` entries, whose cursors have moved on.
 use Prim.Native.Nat.{ℕ, _-_, _≤_, _<_}
-use mathlib.Core.Path.{_≡_, sym, ap, _∙_}
-use mathlib.Core.Bool.{false}
+use mathlib.Core.Path.{_≡_, sym, _∙_}
 use native.Mathlib.Nat.{le-antisymm}
 use native.Mathlib.Omega.{arith}
 use borrow.Author.Tests.{not-true, not-false}
@@ -90,9 +89,9 @@ returns c =
       so = λ e. absurd (never (sym e));
       not-so = λ e all.
           row-missing (lent s) (s .args .index .now) (s .args .i) (l .k) _ (reached _ _ (spot (c .before .before .before .before .before) .cursor))
-              (c .before .stands .result) (c .before .stands .ensures)
-              (not-true _ (c .if1 .taken))
-              (all (l .k) (omega arith));
+          (c .before .stands .result) (c .before .stands .ensures)
+          (not-true _ (c .if1 .taken))
+          (all (l .k) (omega arith));
     }
 
 add-cursors : tie.Need-add-cursors Inv-loop μ-loop
