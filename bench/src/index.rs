@@ -33,7 +33,7 @@ pub unsafe fn build(h: &Matrix, index: &mut [u16]) {
 }
 
 /// Whether a lent index is the matrix's own: the building replayed, each number compared where it
-/// would be written. The fastest form found: no branch within a row, the differences ORed.
+/// would be written. No branch within a row: the differences are ORed.
 ///
 /// # Safety
 /// The check has accepted the matrix.

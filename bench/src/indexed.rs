@@ -169,7 +169,7 @@ fn measure_iterative(code: &Code, step: f32, deviation: f64, turns: usize) {
     compare(code, "iterative voting", turns, [indexed, without]);
 }
 
-/// The verifying of a lent index: the library's replay, the fastest one in plain Rust and the plain
+/// The verifying of a lent index: the library's replay, one in plain Rust without a branch and the plain
 /// one, each by itself.
 fn verifying(code: &Code, own: &[u16], turns: usize) -> [f64; 3] {
     let h = &code.matrix;
@@ -177,20 +177,20 @@ fn verifying(code: &Code, own: &[u16], turns: usize) -> [f64; 3] {
     // SAFETY: the check has accepted the matrix.
     let library = || unsafe { replay(black_box(h).into(), black_box(own)) };
     // SAFETY: the same.
-    let fastest = || unsafe { index::is_own(black_box(h), black_box(own)) };
+    let branchless = || unsafe { index::is_own(black_box(h), black_box(own)) };
     // SAFETY: the same.
     let plain = || unsafe { index::is_own_plain(black_box(h), black_box(own)) };
-    assert!(library() && fastest() && plain(), "{}", code.name);
+    assert!(library() && branchless() && plain(), "{}", code.name);
     let library = Form::new(1, || {
         black_box(library());
     });
-    let fastest = Form::new(1, || {
-        black_box(fastest());
+    let branchless = Form::new(1, || {
+        black_box(branchless());
     });
     let plain = Form::new(1, || {
         black_box(plain());
     });
-    best_times(turns, [library, fastest, plain])
+    best_times(turns, [library, branchless, plain])
 }
 
 /// The building: the library's call less the matrix check, which it begins with, and plain Rust.
@@ -217,19 +217,19 @@ fn building(code: &Code, own: &[u16], turns: usize) -> [f64; 2] {
 
 fn measure_parts(code: &Code, turns: usize) {
     let own = index_of(&code.matrix);
-    let [verifying, fastest, plain] = verifying(code, &own, turns);
+    let [verifying, branchless, plain] = verifying(code, &own, turns);
     let [building, rust] = building(code, &own, turns);
     let literal = Form::new(1, || {
         assert!(index_of(black_box(&code.matrix)) == own);
     });
     let [literal] = best_times(LITERAL_TURNS, [literal]);
     println!(
-        "| {} | {:.2} | {:.2} | {:.2} | {:.0} | {verifying:.2} | {fastest:.2} | {plain:.2} | {building:.2} | {rust:.2} | {literal:.1} |",
+        "| {} | {:.2} | {:.2} | {:.2} | {:.0} | {verifying:.2} | {branchless:.2} | {plain:.2} | {building:.2} | {rust:.2} | {literal:.1} |",
         code.name,
-        verifying / fastest,
+        verifying / branchless,
         verifying / plain,
         building / rust,
-        literal / fastest,
+        literal / branchless,
     );
 }
 
@@ -252,7 +252,7 @@ pub fn measure(turns: usize) {
         "The parts alone. Verifying: the library's replay of the own index on an accepted matrix, by \
          itself; the weights of the columns, which it finds on its way, are in it. Building: the call \
          less the matrix check. In plain Rust, no bounds checks: a cursor for each column and the rows \
-         walked once, each number compared (the replay) or written. Fastest replay: no branch within a \
+         walked once, each number compared (the replay) or written. Branchless replay: no branch within a \
          row, the differences ORed and looked at after it. Plain replay: as C has it, each number \
          compared by a branch that ends the replay at the first difference. The forms of each part \
          take turns, the three replays on the same matrix and index, and the best of {turns} turns of \
@@ -260,7 +260,7 @@ pub fn measure(turns: usize) {
          searched for each column and the lists compared, the best of {LITERAL_TURNS}."
     );
     println!();
-    println!("| code | verifying / fastest replay | verifying / plain replay | building / Rust | literal / fastest replay | verifying µs | fastest replay µs | plain replay µs | building µs | Rust µs | literal µs |");
+    println!("| code | verifying / branchless replay | verifying / plain replay | building / Rust | literal / branchless replay | verifying µs | branchless replay µs | plain replay µs | building µs | Rust µs | literal µs |");
     println!("|---|---|---|---|---|---|---|---|---|---|---|");
     for (code, _, _) in cases() {
         measure_parts(&code, turns);
