@@ -1,6 +1,7 @@
 -- A lent index compared with an ordered matrix, number by number.
 --   wrongStarts f gamma x k   == how many of the first k numbers of x are not f and further ones gamma apart
 --   Stands H x i k            == row i stands in x at the place of its k-th entry
+--   RowStands H x i           == it does at those of all of its entries
 --   Full H                    == every column has gamma ones
 --   Own H x                   == every column has gamma ones, and x has the starting places and the rows of such columns
 --   RowReplayed H i x c r     == r says whether row i stands at all of its places; then c has the cursors behind it
