@@ -1,5 +1,5 @@
 # The shed-link block decoder. `make run` shows it working, `make test` checks everything, `make bench` measures it.
-.PHONY: run test bench fuzz audit prove staticlib mlgd reference decode tools python
+.PHONY: run test bench fuzz audit prove staticlib mlgd reference decode tools python c
 
 # Checks of crates and must-fail edits that run at a time, each in about 1 GB: more than the processors, since those of a batch wait for its longest.
 export RT_JOBS ?= 8
@@ -27,9 +27,12 @@ run: tools
 test: tools python
 	tools/gate
 
-# One archive more: the core of one-step voting and the replay of a lent index, which nobody but the benchmark links.
-bench: tools staticlib decode
+# Two archives more, which nobody but the benchmark links: the core of one-step voting and the replay of a lent index; and, in C, the
+# plain replay that the library's is measured against.
+bench: tools c staticlib decode
 	rt staticlib ffi_bench
+	cc -O2 -c bench/c/replay.c -o target/staticlib/replay.o
+	ar rcs target/staticlib/libplain_replay.a target/staticlib/replay.o
 	cargo build --release --quiet -p bench --features measure
 	build/release/bench
 
@@ -77,3 +80,8 @@ tools:
 # What `test` and `audit` need beside that.
 python:
 	@command -v python3 >/dev/null || { echo "python3 is missing: the checks of the documents and of the edits need it" >&2; exit 1; }
+
+# What `bench` needs beside that.
+c:
+	@command -v cc >/dev/null || { echo "cc is missing: install a C compiler to build the replay that the benchmark measures against" >&2; exit 1; }
+	@command -v ar >/dev/null || { echo "ar is missing: install binutils to build the replay that the benchmark measures against" >&2; exit 1; }

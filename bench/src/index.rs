@@ -1,5 +1,5 @@
-//! The index of an accepted matrix, built and found to be the own one, as fast as plain Rust was
-//! found to go: a cursor for each column, and the rows walked once.
+//! The index of an accepted matrix, built and found to be the own one, in plain Rust: a cursor for
+//! each column, and the rows walked once.
 
 use reference::Matrix;
 

@@ -1,5 +1,5 @@
 //! Voting that is lent an index against the same voting without one; and what the library takes to
-//! verify a lent index and to build one, against plain Rust.
+//! verify a lent index and to build one, against plain C and plain Rust.
 
 use crate::programs::cases;
 use crate::{received_words, Form, LITERAL_TURNS, WORDS};
@@ -8,6 +8,7 @@ use ffi_face::{LentMatrix, Packed};
 use generator::codes::Code;
 use generator::{noise, settings, Codewords, Random};
 use reference::{byte_count, index_of, Setting};
+use std::ffi::c_int;
 use std::hint::black_box;
 
 // In libffi_bench.a.
@@ -36,6 +37,36 @@ unsafe fn replay(h: LentMatrix, index: &[u16]) -> bool {
         h.gamma,
         h.list.as_ptr(),
         h.list.len(),
+        index.as_ptr(),
+        index.len(),
+    );
+    own == 1
+}
+
+// In libplain_replay.a, which is made from bench/c/replay.c.
+extern "C" {
+    fn plain_replay(
+        n: u16,
+        m: u16,
+        rho: u16,
+        gamma: u16,
+        list: *const u16,
+        index: *const u16,
+        index_len: usize,
+    ) -> c_int;
+}
+
+/// The same by the plain replay in C.
+///
+/// # Safety
+/// The check has accepted the matrix.
+unsafe fn replay_in_c(h: LentMatrix, index: &[u16]) -> bool {
+    let own = plain_replay(
+        h.n,
+        h.m,
+        h.rho,
+        h.gamma,
+        h.list.as_ptr(),
         index.as_ptr(),
         index.len(),
     );
@@ -169,20 +200,26 @@ fn measure_iterative(code: &Code, step: f32, deviation: f64, turns: usize) {
     compare(code, "iterative voting", turns, [indexed, without]);
 }
 
-/// The verifying of a lent index: the library's replay, one in plain Rust without a branch and the plain
-/// one, each by itself.
-fn verifying(code: &Code, own: &[u16], turns: usize) -> [f64; 3] {
+/// The verifying of a lent index: the library's replay, the plain one in C, one in plain Rust without a
+/// branch and the plain one in Rust, each by itself.
+fn verifying(code: &Code, own: &[u16], turns: usize) -> [f64; 4] {
     let h = &code.matrix;
     assert_eq!(ffi_face::check(h.into()), Packed(0));
     // SAFETY: the check has accepted the matrix.
     let library = || unsafe { replay(black_box(h).into(), black_box(own)) };
     // SAFETY: the same.
+    let in_c = || unsafe { replay_in_c(black_box(h).into(), black_box(own)) };
+    // SAFETY: the same.
     let branchless = || unsafe { index::is_own(black_box(h), black_box(own)) };
     // SAFETY: the same.
     let plain = || unsafe { index::is_own_plain(black_box(h), black_box(own)) };
-    assert!(library() && branchless() && plain(), "{}", code.name);
+    assert!(library() && in_c(), "{}", code.name);
+    assert!(branchless() && plain(), "{}", code.name);
     let library = Form::new(1, || {
         black_box(library());
+    });
+    let in_c = Form::new(1, || {
+        black_box(in_c());
     });
     let branchless = Form::new(1, || {
         black_box(branchless());
@@ -190,7 +227,7 @@ fn verifying(code: &Code, own: &[u16], turns: usize) -> [f64; 3] {
     let plain = Form::new(1, || {
         black_box(plain());
     });
-    best_times(turns, [library, branchless, plain])
+    best_times(turns, [library, in_c, branchless, plain])
 }
 
 /// The building: the library's call less the matrix check, which it begins with, and plain Rust.
@@ -217,15 +254,16 @@ fn building(code: &Code, own: &[u16], turns: usize) -> [f64; 2] {
 
 fn measure_parts(code: &Code, turns: usize) {
     let own = index_of(&code.matrix);
-    let [verifying, branchless, plain] = verifying(code, &own, turns);
+    let [verifying, in_c, branchless, plain] = verifying(code, &own, turns);
     let [building, rust] = building(code, &own, turns);
     let literal = Form::new(1, || {
         assert!(index_of(black_box(&code.matrix)) == own);
     });
     let [literal] = best_times(LITERAL_TURNS, [literal]);
     println!(
-        "| {} | {:.2} | {:.2} | {:.2} | {:.0} | {verifying:.2} | {branchless:.2} | {plain:.2} | {building:.2} | {rust:.2} | {literal:.1} |",
+        "| {} | {:.2} | {:.2} | {:.2} | {:.2} | {:.0} | {verifying:.2} | {in_c:.2} | {branchless:.2} | {plain:.2} | {building:.2} | {rust:.2} | {literal:.1} |",
         code.name,
+        verifying / in_c,
         verifying / branchless,
         verifying / plain,
         building / rust,
@@ -251,17 +289,19 @@ pub fn measure(turns: usize) {
     println!(
         "The parts alone. Verifying: the library's replay of the own index on an accepted matrix, by \
          itself; the weights of the columns, which it finds on its way, are in it. Building: the call \
-         less the matrix check. In plain Rust, no bounds checks: a cursor for each column and the rows \
-         walked once, each number compared (the replay) or written. Branchless replay: no branch within a \
-         row, the differences ORed and looked at after it. Plain replay: as C has it, each number \
-         compared by a branch that ends the replay at the first difference. The forms of each part \
-         take turns, the three replays on the same matrix and index, and the best of {turns} turns of \
-         each counts; a turn is the mean of as many calls as take a millisecond. Literal: all rows \
-         searched for each column and the lists compared, the best of {LITERAL_TURNS}."
+         less the matrix check. C replay: bench/c/replay.c, compiled by the C compiler `cc -O2`: a cursor \
+         for each column and the rows walked once, each number compared by a branch that ends the replay \
+         at the first difference; it does not look at the columns' weights, as the library's replay does. \
+         In plain Rust, no bounds checks and no weights either: the same walk, each number compared (the \
+         replay) or written. Branchless replay: no branch within a row, the differences ORed and looked at \
+         after it. Plain replay: with the branch, as C has it. The forms of each part take turns, the four \
+         replays on the same matrix and index, and the best of {turns} turns of each counts; a turn is the \
+         mean of as many calls as take a millisecond. Literal: all rows searched for each column and the \
+         lists compared, the best of {LITERAL_TURNS}."
     );
     println!();
-    println!("| code | verifying / branchless replay | verifying / plain replay | building / Rust | literal / branchless replay | verifying µs | branchless replay µs | plain replay µs | building µs | Rust µs | literal µs |");
-    println!("|---|---|---|---|---|---|---|---|---|---|---|");
+    println!("| code | verifying / C replay | verifying / branchless replay | verifying / plain replay | building / Rust | literal / branchless replay | verifying µs | C replay µs | branchless replay µs | plain replay µs | building µs | Rust µs | literal µs |");
+    println!("|---|---|---|---|---|---|---|---|---|---|---|---|---|");
     for (code, _, _) in cases() {
         measure_parts(&code, turns);
     }
