@@ -28,15 +28,17 @@
 --   sum-next                 == nor are the first terms and the next
 --   sum-const                == k terms of a each add up to k * a
 --   sum-within               == a number below a sum lies in one of its terms: so far past the terms before it
+--   byte-flag                == a test as the code adds it is the test as a number
 -- Assumes nothing.
 use mathlib.Core.Path.{_≡_, refl, sym, ap, ap₂, _∙_}
 use mathlib.Core.Logic.{inl, inr}
-use mathlib.Core.Bool.{Bool, not}
+use mathlib.Core.Bool.{Bool, true, false, not}
 use Prim.Native.Nat.{ℕ, zero, suc, _+_, _*_, _-_, _≤_, _<_, zero-le}
 use native.Mathlib.Nat.{add-zero, add-suc, suc-mul, mul-zero, mul-add, add-mul, zero-mul, one-mul, eq-zero-or-pos, not-suc-le-zero}
 use native.Mathlib.Decide.{ℕ-discrete, decLt}
 use native.Mathlib.Omega.{arith}
 use borrow.Author.Tests.{eq-eqb, ne-eqb}
+use mir.Val.{boolByte}
 use Rattle.counting.specs.Paper.Sum.{sumBelow, flag, same, unequal}
 
 -- sums of equal terms are equal
@@ -143,6 +145,11 @@ sum-two (suc k) f a b ha hb ne pa pb =
     ]
 
 -- ---- tests
+
+-- a test as the code adds it is the test as a number
+pub byte-flag : (t : Bool) → boolByte t ≡ flag t
+byte-flag true = refl
+byte-flag false = refl
 
 -- `same` of a number and itself is 1
 pub same-refl : (a : ℕ) → same a a ≡ 1

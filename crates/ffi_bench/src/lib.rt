@@ -5,6 +5,7 @@ use answers::Answer;
 use ffi_codes::answer_code;
 use matrix_check::Shape;
 ghost use mathlib.Core.Path.{_≡_};
+ghost use Prim.Native.Nat.{_≤_};
 ghost use lib.Dec.{eqb};
 ghost use Rattle.counting.specs.Paper.Lists.{over};
 ghost use Rattle.packed_word.specs.Paper.Packed.{bitAt};
@@ -46,7 +47,7 @@ pub extern "C" fn mlgd_replay(
     index: &[u16],
 ) -> u64
     requires { ⌜ Ordered (matrix n m rho gamma (now list)) ⌝ }
-    ensures { λ r. ⌜ Replayed (matrix n m rho gamma (now (list .entry))) (now (index .entry)) (eqb r 1) ⌝ }
+    ensures { λ r. ⌜ Replayed (matrix n m rho gamma (now (list .entry))) (now (index .entry)) (eqb r 1) × (r ≤ 1) ⌝ }
 {
     let shape = Shape { n, m, rho, gamma };
     if matrix_index_replay::replay(shape, list, index) {

@@ -3,7 +3,7 @@
 --   inRow H i k j            == the ones of column j among the first k entries of row i
 --   startBy gamma j           == the starting place of column j where every column has gamma ones
 --   rowPlace H i k            == where row i stands for its k-th entry
---   placeBy H i k             == the same where every column has gamma ones, whatever the weights are
+--   placeBy H i k             == the same counted from starting places j * gamma, whatever the weights are
 --   Cursors H i k c           == c has, for each column, where by that its next row goes after the rows before row i and k entries of row i
 --   rowPut H i k x            == x with row i written at the places of its first k entries
 --   rowsPut H i x             == x with the rows before row i written at all of theirs

@@ -11,7 +11,7 @@ ghost use Rattle.matrix_index.specs.Paper.Index.{indexOf, indexSize};
 ghost use Rattle.matrix_index.specs.Filling.{startBy, Cursors, Passed, rowPut};
 
 // The starting places of `count` columns of gamma ones each. The cells past them stay.
-// Only this repository's crates call it, with the sizes of an accepted matrix.
+// Only this repository's crates call it, with sizes that are in range.
 pub fn put_starts(count: usize, gamma: usize, cells: &mut [u16])
     requires { ⌜ (count ≤ 1024) × (gamma ≤ 32) × (count ≤ length (now cells)) ⌝ }
     ensures { λ _. ⌜ now (cells .exit) ≡ over (listed count (startBy gamma)) (now (cells .entry)) ⌝ }

@@ -6,9 +6,11 @@
 --   starts-front               == the starting places of the index as the code counts them
 --   row-standing               == what is found at the place of an entry says whether the row stands there
 --   row-missing                == and where it does not
---   row-more                   == one entry more
+--   entry-more                 == one entry more
+--   row-all, row-not           == what is said of a row: it stands at all of its places, or it does not
+--   row-behind                 == then the cursors stand behind it
 --   rows-more                  == one row more
---   ended                      == a cursor behind all rows is its column's starting place and weight
+--   cursor-end                 == a cursor behind all rows is its column's starting place and weight
 --   rows-ended                 == so the cursors say whether every column is full
 -- Assumes nothing.
 use mathlib.Core.Path.{_≡_, refl, sym, ap, _∙_}
@@ -26,21 +28,26 @@ use Rattle.counting.specs.Places.{at}
 use Rattle.counting.proofs.Searches.{never, and-left, and-right, and-both}
 use Rattle.counting.proofs.Sums.{sum-zero, sum-bound, sum-term, differ-le, differ-zero, differ-eq}
 use Rattle.matrix.specs.Paper.Code.{Matrix, weight}
+use Rattle.matrix.specs.Ordered.{Ordered}
 use Rattle.matrix_index.specs.Filling.{startBy, placeBy, inRow, Cursors}
 use Rattle.matrix_index.proofs.Parts.{before-all}
-use Rattle.matrix_index_replay.specs.Replay.{wrongStarts, Stands, RowStands, RowsReplayed}
+use Rattle.matrix_index.proofs.Cursors.{cursors-row}
+use Rattle.matrix_index_replay.specs.Replay.{wrongStarts, Stands, RowStands, RowReplayed, RowsReplayed}
 
 -- ---- starting places
 
+-- no starting place is looked at yet
 pub starts-none : (from gamma : ℕ) (x : List ℕ) → 0 ≡ wrongStarts from gamma x 0
 unfolding wrongStarts sumBelow
 starts-none from gamma x = refl
 
+-- one more is
 pub starts-step : (from gamma : ℕ) (x : List ℕ) (j w d : ℕ) → w ≡ wrongStarts from gamma x j → d ≡ unequal (at x j) (from + j * gamma)
     → w + d ≡ wrongStarts from gamma x (j + 1)
 unfolding wrongStarts sumBelow startBy
 starts-step from gamma x j w d e q = rw (add-one j) (omega (arith, e, q))
 
+-- no more are wrong than are looked at
 pub starts-most : (from gamma : ℕ) (x : List ℕ) (k : ℕ) → wrongStarts from gamma x k ≤ k
 unfolding wrongStarts
 starts-most from gamma x k =
@@ -80,24 +87,37 @@ module _ (H : Matrix) (x : List ℕ) (i k p : ℕ) (e : p ≡ placeBy H i k) (t 
       (sym (and-both (ltb p (length x)) (eqb (at x p) i) (lt-ltb p (length x) (rw e (s .inside))) (eq-eqb (at x p) i (rw e (s .is)))) ∙ sym q ∙ n)
 
 -- one entry more
-pub row-more : (H : Matrix) (x : List ℕ) (i k : ℕ) → ((q : ℕ) → q < k → Stands H x i q) → Stands H x i k → (q : ℕ) → q < k + 1 → Stands H x i q
-row-more H x i k all s = below-more (Stands H x i) k all s
+pub entry-more : (H : Matrix) (x : List ℕ) (i k : ℕ) → ((q : ℕ) → q < k → Stands H x i q) → Stands H x i k → (q : ℕ) → q < k + 1 → Stands H x i q
+entry-more H x i k all s = below-more (Stands H x i) k all s
+
+module _ (H : Matrix) (i : ℕ) (x c c′ : List ℕ) (t : Bool) (r : RowReplayed H i x c c′ t) where
+  -- a row that stands at all of its places
+  pub row-all : t ≡ true → RowStands H x i
+  row-all y k l = r .stood k (rw (r .so y) l)
+
+  -- the cursors stand behind it
+  pub row-behind : Ordered H → i < H .m → t ≡ true → Cursors H (i + 1) 0 c′
+  row-behind o l y = cursors-row H o i l c′ (rw (r .so y) at (r .cursors .cursors))
+
+  -- one that does not
+  pub row-not : t ≡ false → RowStands H x i → ⊥
+  row-not n all = r .not-so n .1 (all (r .upto) (r .not-so n .0))
 
 -- one row more
 pub rows-more : (H : Matrix) (x : List ℕ) (i : ℕ) → ((r : ℕ) → r < i → RowStands H x r) → RowStands H x i → (r : ℕ) → r < i + 1 → RowStands H x r
 rows-more H x i all s = below-more (RowStands H x) i all s
 
 -- a cursor behind all rows is its column's starting place and weight
-pub ended : (H : Matrix) (c : List ℕ) → Cursors H (H .m) 0 c → (j : ℕ) → j < H .n → at c j ≡ weight H j + startBy (H .gamma) j
+pub cursor-end : (H : Matrix) (c : List ℕ) → Cursors H (H .m) 0 c → (j : ℕ) → j < H .n → at c j ≡ weight H j + startBy (H .gamma) j
 unfolding inRow sumBelow
-ended H c u j l = omega (arith, u .each j l, before-all H j)
+cursor-end H c u j l = omega (arith, u .each j l, before-all H j)
 
 -- what the cursors behind all rows say: every column is full exactly where none is wrong
 pub rows-ended : (H : Matrix) (x c : List ℕ) (w : ℕ) → Cursors H (H .m) 0 c → ((i : ℕ) → i < H .m → RowStands H x i)
     → w ≡ wrongStarts (H .gamma) (H .gamma) c (H .n) → RowsReplayed H x (eqb w 0)
 rows-ended H x c w u all e =
     record {
-      so = λ t. (all, λ j l. omega (arith, ended H c u j l, starts-right (H .gamma) (H .gamma) c (H .n) (sym e ∙ eqb-true w 0 t) j l));
+      so = λ t. (all, λ j l. omega (arith, cursor-end H c u j l, starts-right (H .gamma) (H .gamma) c (H .n) (sym e ∙ eqb-true w 0 t) j l));
       not-so = λ f rows full.
-          eqb-false w 0 f (e ∙ right-starts (H .gamma) (H .gamma) c (H .n) (λ j l. omega (arith, ended H c u j l, full j l)));
+          eqb-false w 0 f (e ∙ right-starts (H .gamma) (H .gamma) c (H .n) (λ j l. omega (arith, cursor-end H c u j l, full j l)));
     }

@@ -4,7 +4,7 @@
 --   RowStands H x i           == it does at those of all of its entries
 --   Full H                    == every column has gamma ones
 --   Own H x                   == every column has gamma ones, and x has the starting places and the rows of such columns
---   RowReplayed H i x c r     == r says whether row i stands at all of its places; then c has the cursors behind it
+--   RowReplayed H i x c c′ r  == r says whether row i stands at all of its places; the cursors c become c′, moved on where it stands
 --   RowsReplayed H x r        == r says whether all rows do, and every column is full
 --   Replayed H x r            == r says whether x is the matrix's own
 -- proofs/Own.antt shows that of an accepted matrix `indexOf H` alone is its own. Assumes nothing.
@@ -17,7 +17,7 @@ use Rattle.counting.specs.Paper.Sum.{sumBelow, unequal}
 use Rattle.counting.specs.Places.{at}
 use Rattle.matrix.specs.Paper.Code.{Matrix, weight}
 use Rattle.matrix_index.specs.Paper.Index.{indexSize}
-use Rattle.matrix_index.specs.Filling.{startBy, placeBy, Cursors}
+use Rattle.matrix_index.specs.Filling.{startBy, placeBy, Passed}
 
 -- how many of the first k numbers are wrong
 unfoldable pub wrongStarts : ℕ → ℕ → List ℕ → ℕ → ℕ
@@ -43,10 +43,13 @@ pub record Own (H : Matrix) (x : List ℕ) : Type 0 where
   pub rows : (i : ℕ) → i < H .m → RowStands H x i
   pub full : Full H
 
--- what is said of row i
-pub record RowReplayed (H : Matrix) (i : ℕ) (x c : List ℕ) (r : Bool) : Type 0 where
-  pub so : r ≡ true → Cursors H (i + 1) 0 c × RowStands H x i
-  pub not-so : r ≡ false → RowStands H x i → ⊥
+-- what is said of row i: it stands at the places of the entries that are passed, and these are all, or it does not stand at the next
+pub record RowReplayed (H : Matrix) (i : ℕ) (x c c′ : List ℕ) (r : Bool) : Type 0 where
+  pub upto : ℕ
+  pub cursors : Passed H i upto c c′
+  pub stood : (k : ℕ) → k < upto → Stands H x i k
+  pub so : r ≡ true → upto ≡ H .rho
+  pub not-so : r ≡ false → (upto < H .rho) × (Stands H x i upto → ⊥)
 
 -- what is said of all rows
 pub record RowsReplayed (H : Matrix) (x : List ℕ) (r : Bool) : Type 0 where

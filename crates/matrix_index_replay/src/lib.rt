@@ -38,7 +38,7 @@ fn starts_wrong(count: usize, from: usize, gamma: usize, cells: &[u16]) -> u16
 }
 
 // Whether number p of the index is there and is i.
-fn stands(index: &[u16], p: usize, i: u16) -> bool
+fn number_is(index: &[u16], p: usize, i: u16) -> bool
     ensures { λ r. ⌜ r ≡ ltb p (length (now (index .entry))) && eqb (at (now (index .entry)) p) i ⌝ }
 {
     if index.len() <= p {
@@ -47,7 +47,7 @@ fn stands(index: &[u16], p: usize, i: u16) -> bool
     index[p] == i
 }
 
-// Whether row i of rho entries stands at all of its places. The cursors move on as if it were placed.
+// Whether row i of rho entries stands at all of its places. The cursors move on as if it were placed, up to where it does not stand.
 fn row_stands(
     shape: Shape,
     rho: usize,
@@ -57,14 +57,14 @@ fn row_stands(
     index: &[u16],
 ) -> bool
     requires { ⌜ Ordered (matrix (shape .n) (shape .m) rho (shape .gamma) (now list)) × (i < shape .m) × Cursors (matrix (shape .n) (shape .m) rho (shape .gamma) (now list)) i 0 (now cursors) ⌝ }
-    ensures { λ r. ⌜ RowReplayed (matrix (shape .n) (shape .m) rho (shape .gamma) (now (list .entry))) i (now (index .entry)) (now (cursors .exit)) r ⌝ }
+    ensures { λ r. ⌜ RowReplayed (matrix (shape .n) (shape .m) rho (shape .gamma) (now (list .entry))) i (now (index .entry)) (now (cursors .entry)) (now (cursors .exit)) r ⌝ }
 {
     let mut k = 0;
     while k < rho {
         let base = (shape.n as usize) + 1;
         let j = list[i * rho + k] as usize;
         let c = cursors[j] as usize;
-        if !stands(index, base + c, i as u16) {
+        if !number_is(index, base + c, i as u16) {
             return false;
         }
         cursors[j] = (c + 1) as u16;
@@ -76,7 +76,7 @@ fn row_stands(
 // The same, with the loop laid out for rows of five.
 fn row_laid_out(shape: Shape, list: &[u16], i: usize, cursors: &mut [u16], index: &[u16]) -> bool
     requires { ⌜ Ordered (matrixOf shape (now list)) × (i < shape .m) × Cursors (matrixOf shape (now list)) i 0 (now cursors) ⌝ }
-    ensures { λ r. ⌜ RowReplayed (matrixOf shape (now (list .entry))) i (now (index .entry)) (now (cursors .exit)) r ⌝ }
+    ensures { λ r. ⌜ RowReplayed (matrixOf shape (now (list .entry))) i (now (index .entry)) (now (cursors .entry)) (now (cursors .exit)) r ⌝ }
 {
     let rho = shape.rho as usize;
     if rho == 5 {

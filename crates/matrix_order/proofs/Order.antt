@@ -2,11 +2,11 @@
 --   bit, byte-bit                             == a test as the code adds it, as a remainder by 2
 --   count-step                                == one test more in a count
 --   count-most                                == a count is at most the number of places counted
---   falls                                     == the test that `descent` counts
+--   notAbove                                  == the test that `descent` counts
 --   descent-le, row-descent-le, not-below-le  == what is counted at a place is at most 1
 --   first-counts, first-row-counts            == the first entry counts, and so does the first row
 --   row-begins                                == the entry that begins a later row stands in the list, and not first
---   few-rows                                  == there are no more rows than the largest list has entries
+--   rows-small                                == there are no more rows than the largest list has entries
 --   laid, not-empty                           == the list of a matrix in range is laid in rows, and has an entry
 --   order-says                                == the counts agree and none is beyond n exactly where no entry is bad
 --   in-order-clear                            == where the answer is yes no entry is bad
@@ -28,7 +28,7 @@ use Rattle.counting.specs.Paper.Search.{anyBelow}
 use Rattle.counting.specs.Paper.Sum.{sumBelow, flag}
 use Rattle.counting.proofs.Decisions.{test-fails}
 use Rattle.counting.proofs.Searches.{never, cases, and-left, and-right, and-both, any-none, any-clear}
-use Rattle.counting.proofs.Sums.{sum-cong, sum-zero, sum-bound, sum-add, sum-append, sum-flat, sum-term}
+use Rattle.counting.proofs.Sums.{byte-flag, sum-cong, sum-zero, sum-bound, sum-add, sum-append, sum-flat, sum-term}
 use Rattle.matrix.specs.Paper.Code.{Matrix}
 use Rattle.matrix.specs.Paper.Check.{badEntry}
 use Rattle.matrix.specs.Paper.PlainCheck.{BadEntry, Never}
@@ -43,11 +43,6 @@ use Rattle.matrix_order.specs.Order.{Laid, descent, rowDescent, notBelow
 flag-le : (t : Bool) → flag t ≤ 1
 flag-le true = omega arith
 flag-le false = omega arith
-
--- a test as the code adds it is the test as a number
-byte-flag : (t : Bool) → boolByte t ≡ flag t
-byte-flag true = refl
-byte-flag false = refl
 
 -- a test as a number, kept closed so that `byte-bit` rewrites once
 unfoldable pub bit : Bool → ℕ
@@ -70,18 +65,20 @@ pub count-most : (f : ℕ → ℕ) → ((i : ℕ) → f i ≤ 1) → (k : ℕ) �
 count-most f h k = omega (arith, sum-bound k 1 {f = f} (λ i l. h i))
 
 -- the test that `descent` counts
-abbrev pub falls : List ℕ → ℕ → Bool
-falls l p = leb (getD l p 0) (getD l (p - 1) 0)
+abbrev pub notAbove : List ℕ → ℕ → Bool
+notAbove l p = leb (getD l p 0) (getD l (p - 1) 0)
 
 -- what is counted at a place is at most 1
 pub descent-le : (l : List ℕ) (p : ℕ) → descent l p ≤ 1
 unfolding descent
-descent-le l p = flag-le (falls l p)
+descent-le l p = flag-le (notAbove l p)
 
+-- the same at the beginning of a row
 pub row-descent-le : (l : List ℕ) (rho i : ℕ) → rowDescent l rho i ≤ 1
 unfolding rowDescent
 row-descent-le l rho i = descent-le l (i * rho)
 
+-- and of the entries that are not below n
 pub not-below-le : (l : List ℕ) (n p : ℕ) → notBelow l n p ≤ 1
 unfolding notBelow
 not-below-le l n p = flag-le (leb n (getD l p 0))
@@ -91,33 +88,34 @@ one-term : (f : ℕ → ℕ) → sumBelow 1 f ≡ f 0
 unfolding sumBelow
 one-term f = omega arith
 
--- the first entry counts, and so does the first row
+-- the first entry counts
 pub first-counts : (l : List ℕ) → 1 ≡ sumBelow 1 (descent l)
 unfolding descent
 first-counts l = sym (one-term (descent l) ∙ ap flag (le-leb (getD l 0 0) (getD l 0 0) (omega arith)))
 
+-- and so does the first row
 pub first-row-counts : (l : List ℕ) (rho : ℕ) → 1 ≡ sumBelow 1 (rowDescent l rho)
 unfolding rowDescent
 first-row-counts l rho =
     first-counts l ∙ one-term (descent l) ∙ ap (descent l) (sym (zero-mul rho)) ∙ sym (one-term (rowDescent l rho))
 
 -- where `descent` is 0 the entry is above the one before it, and only there
-above : (l : List ℕ) (p : ℕ) → descent l p ≡ 0 → getD l p 0 ≤ getD l (p - 1) 0 → ⊥
+zero-climbs : (l : List ℕ) (p : ℕ) → descent l p ≡ 0 → getD l p 0 ≤ getD l (p - 1) 0 → ⊥
 unfolding descent
-above l p e h = omega (arith, e, ap flag (le-leb (getD l p 0) (getD l (p - 1) 0) h))
+zero-climbs l p e h = omega (arith, e, ap flag (le-leb (getD l p 0) (getD l (p - 1) 0) h))
 
-is-above : (l : List ℕ) (p : ℕ) → (getD l p 0 ≤ getD l (p - 1) 0 → ⊥) → descent l p ≡ 0
+climbs-zero : (l : List ℕ) (p : ℕ) → (getD l p 0 ≤ getD l (p - 1) 0 → ⊥) → descent l p ≡ 0
 unfolding descent
-is-above l p h = ap flag (lt-leb (getD l p 0) (getD l (p - 1) 0) (omega (arith, h)))
+climbs-zero l p h = ap flag (lt-leb (getD l p 0) (getD l (p - 1) 0) (omega (arith, h)))
 
 -- where `notBelow` is 0 the entry is below n, and only there
-below : (l : List ℕ) (n p : ℕ) → notBelow l n p ≡ 0 → n ≤ getD l p 0 → ⊥
+zero-below : (l : List ℕ) (n p : ℕ) → notBelow l n p ≡ 0 → n ≤ getD l p 0 → ⊥
 unfolding notBelow
-below l n p e h = omega (arith, e, ap flag (le-leb n (getD l p 0) h))
+zero-below l n p e h = omega (arith, e, ap flag (le-leb n (getD l p 0) h))
 
-is-below : (l : List ℕ) (n p : ℕ) → (n ≤ getD l p 0 → ⊥) → notBelow l n p ≡ 0
+below-zero : (l : List ℕ) (n p : ℕ) → (n ≤ getD l p 0 → ⊥) → notBelow l n p ≡ 0
 unfolding notBelow
-is-below l n p h = ap flag (lt-leb n (getD l p 0) (omega (arith, h)))
+below-zero l n p h = ap flag (lt-leb n (getD l p 0) (omega (arith, h)))
 
 -- ---- rows
 
@@ -127,8 +125,8 @@ row-begins {l} {m} {rho} d i h b =
     (mul-le-mul {n₁ = 1} {m₁ = 1} {n₂ = i} {m₂ = rho} h (d .wide), omega (arith, d .whole, digits-lt {q = i} {m = m} {r = 0} {c = rho} b (d .wide)))
 
 -- there are no more rows than the largest list has entries
-pub few-rows : {l : List ℕ} {m rho : ℕ} → Laid l m rho → m ≤ 32736
-few-rows {l} {m} {rho} d = omega (arith, d .few, d .whole, mul-le-mul {n₁ = m} {m₁ = 1} {n₂ = m} {m₂ = rho} (omega arith) (d .wide))
+pub rows-small : {l : List ℕ} {m rho : ℕ} → Laid l m rho → m ≤ 32736
+rows-small {l} {m} {rho} d = omega (arith, d .few, d .whole, mul-le-mul {n₁ = m} {m₁ = 1} {n₂ = m} {m₂ = rho} (omega arith) (d .wide))
 
 -- the descents inside row i: at each entry but the one that begins it
 unfoldable inside : List ℕ → ℕ → ℕ → ℕ
@@ -189,17 +187,17 @@ module _ {H : Matrix} (z : Sized H) where
   counts-clear : sumBelow (length (H .list)) (descent (H .list)) ≡ sumBelow (H .m) (rowDescent (H .list) (H .rho))
       → sumBelow (length (H .list)) (notBelow (H .list) (H .n)) ≡ 0 → Never (BadEntry H) (length (H .list))
   counts-clear e none p b (inl h) =
-      below (H .list) (H .n) p (omega (arith, none, sum-term (length (H .list)) (notBelow (H .list) (H .n)) p b)) h
-  counts-clear e none p b (inr h) = above (H .list) p (none-inside laid e p b (h .0)) (h .1)
+      zero-below (H .list) (H .n) p (omega (arith, none, sum-term (length (H .list)) (notBelow (H .list) (H .n)) p b)) h
+  counts-clear e none p b (inr h) = zero-climbs (H .list) p (none-inside laid e p b (h .0)) (h .1)
 
   -- where no entry is bad the counts agree
   clear-counts : Never (BadEntry H) (length (H .list))
       → sumBelow (length (H .list)) (descent (H .list)) ≡ sumBelow (H .m) (rowDescent (H .list) (H .rho))
-  clear-counts c = counts-agree laid (λ p b h. is-above (H .list) p (λ a. c p b (inr (h, a))))
+  clear-counts c = counts-agree laid (λ p b h. climbs-zero (H .list) p (λ a. c p b (inr (h, a))))
 
   -- and no entry is beyond n
-  clear-below : Never (BadEntry H) (length (H .list)) → sumBelow (length (H .list)) (notBelow (H .list) (H .n)) ≡ 0
-  clear-below c = sum-zero (length (H .list)) (λ p b. is-below (H .list) (H .n) p (λ a. c p b (inl a)))
+  clear-large : Never (BadEntry H) (length (H .list)) → sumBelow (length (H .list)) (notBelow (H .list) (H .n)) ≡ 0
+  clear-large c = sum-zero (length (H .list)) (λ p b. below-zero (H .list) (H .n) p (λ a. c p b (inl a)))
 
   -- the counts agree and none is beyond n exactly where no entry is bad
   pub order-says : (x y w : ℕ) → x ≡ sumBelow (length (H .list)) (descent (H .list)) → y ≡ sumBelow (H .m) (rowDescent (H .list) (H .rho))
@@ -212,4 +210,4 @@ module _ {H : Matrix} (z : Sized H) where
       (λ o. cases (anyBelow (badEntry H) (length (H .list))) (λ s. o ∙ sym (ap not s))
       (λ n.
       let c = in-order-clear H (ap not n) in
-      absurd (never (sym (and-both _ _ (eq-eqb x y (ex ∙ clear-counts c ∙ sym ey)) (eq-eqb w 0 (ew ∙ clear-below c))) ∙ o))))
+      absurd (never (sym (and-both _ _ (eq-eqb x y (ex ∙ clear-counts c ∙ sym ey)) (eq-eqb w 0 (ew ∙ clear-large c))) ∙ o))))

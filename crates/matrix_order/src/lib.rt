@@ -41,7 +41,7 @@ fn row_descents(list: &[u16], m: usize, rho: usize) -> u16
 }
 
 // How many entries are not below n.
-fn beyond(list: &[u16], n: u16) -> u16
+fn too_large(list: &[u16], n: u16) -> u16
     requires { ⌜ length (now list) ≤ 32736 ⌝ }
     ensures { λ r. ⌜ r ≡ sumBelow (length (now (list .entry))) (notBelow (now (list .entry)) n) ⌝ }
 {
@@ -61,5 +61,5 @@ pub fn in_order(shape: Shape, list: &[u16]) -> bool
 {
     let m = shape.m as usize;
     let rho = shape.rho as usize;
-    (descents(list) == row_descents(list, m, rho)) & (beyond(list, shape.n) == 0)
+    (descents(list) == row_descents(list, m, rho)) & (too_large(list, shape.n) == 0)
 }

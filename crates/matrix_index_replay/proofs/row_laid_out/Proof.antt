@@ -32,7 +32,8 @@ returns : tie.Need-returns
 returns c =
     let r = c .before .before in
     let s = c .before .before .before .before .before .before .before .before .before in
-    subst (λ rho. RowReplayed (lent s rho) (s .args .i) (s .args .index .now) (r .row-stands .last .1 .1 .1 .1 .0) (r .row-stands .result))
+    subst (λ rho.
+    RowReplayed (lent s rho) (s .args .i) (s .args .index .now) (s .args .cursors .now) (r .row-stands .last .1 .1 .1 .1 .0) (r .row-stands .result))
     (sym (r .before .before .if1 .taken)) (r .row-stands .ensures)
 
 row-stands-requires-2 : tie.Need-row-stands-requires-2

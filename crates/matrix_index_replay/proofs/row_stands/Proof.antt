@@ -6,16 +6,16 @@ use native.Mathlib.Omega.{arith}
 use borrow.Author.Tests.{not-true, not-false}
 use Rattle.counting.proofs.Searches.{never}
 use Rattle.matrix.specs.Paper.Code.{Matrix, matrix}
-use Rattle.matrix_index.specs.Filling.{Cursors}
-use Rattle.matrix_index.proofs.Cursors.{Spot, spot-of, reached, cursors-next, cursors-row}
+use Rattle.matrix_index.specs.Filling.{Passed}
+use Rattle.matrix_index.proofs.Cursors.{Spot, spot-of, reached, passed-none, passed-step}
 use Rattle.matrix_index_replay.specs.Replay.{Stands}
-use Rattle.matrix_index_replay.proofs.Numbers.{row-standing, row-missing, row-more}
+use Rattle.matrix_index_replay.proofs.Numbers.{row-standing, row-missing, entry-more}
 use Rattle.matrix_index_replay.proofs.row_stands.Statement.{statement}
 use Rattle.matrix_index_replay.proofs.row_stands.Tie as tie
 
 abbrev Inv-loop : tie.InvT-loop
 Inv-loop shape rho list i cursors₀ index k₀ cursors k =
-    let H = matrix (shape .n) (shape .m) rho (shape .gamma) list in (k ≤ rho) × Cursors H i k cursors × ((q : ℕ) → q < k → Stands H index i q)
+    let H = matrix (shape .n) (shape .m) rho (shape .gamma) list in (k ≤ rho) × Passed H i k cursors₀ cursors × ((q : ℕ) → q < k → Stands H index i q)
 
 abbrev μ-loop : tie.MeasureT-loop
 μ-loop shape rho list i cursors₀ index k₀ cursors k = rho - k
@@ -31,10 +31,12 @@ spot : (c : tie.In-loop Inv-loop μ-loop)
 spot c =
     let s = c .before .before .before .before .before in
     let l = c .before .loop in
-    spot-of (lent s) (s .pre .0) (s .args .i) (s .pre .1) (l .k) (omega arith) (l .cursors) (l .inv .1)
+    spot-of (lent s) (s .pre .0) (s .args .i) (s .pre .1) (l .k) (omega arith) (l .cursors) (l .inv .1 .cursors)
 
 loop-holds : tie.Need-loop-holds Inv-loop μ-loop
-loop-holds c = let s = c .before .before .before in (omega arith, s .pre .2, λ q l. absurd (omega arith))
+loop-holds c =
+    let s = c .before .before .before in
+    (omega arith, passed-none (lent s) (s .pre .0) (s .args .i) (s .args .cursors .now) (s .pre .2), λ q l. absurd (omega arith))
 
 cast-base : tie.Need-cast-base Inv-loop μ-loop
 cast-base c = omega (arith, c .before .before .before .before .before .before .pre .0 .sized .sizes .n-most)
@@ -61,24 +63,24 @@ mul-c : tie.Need-mul-c Inv-loop μ-loop
 mul-c c = omega (arith, spot (c .before .before) .column)
 
 slice-read-c : tie.Need-slice-read-c Inv-loop μ-loop
-slice-read-c c = omega (arith, spot (c .before .before .before) .column, c .before .before .before .before .loop .inv .1 .long)
+slice-read-c c = omega (arith, spot (c .before .before .before) .column, c .before .before .before .before .loop .inv .1 .cursors .long)
 
 cast-c : tie.Need-cast-c Inv-loop μ-loop
 cast-c c = omega (arith, spot (c .before .before .before) .low)
 
-add-stands : tie.Need-add-stands Inv-loop μ-loop
-add-stands c =
+add-number-is : tie.Need-add-number-is Inv-loop μ-loop
+add-number-is c =
     omega (arith, spot (c .before .before .before) .low, c .before .before .before .before .before .before .before .before .pre .0 .sized .sizes .n-most)
 
-cast-stands : tie.Need-cast-stands Inv-loop μ-loop
-cast-stands c = let s = c .before .before .before .before .before .before .before .before in omega (arith, s .pre .1, s .pre .0 .sized .sizes .m-most)
+cast-number-is : tie.Need-cast-number-is Inv-loop μ-loop
+cast-number-is c = let s = c .before .before .before .before .before .before .before .before in omega (arith, s .pre .1, s .pre .0 .sized .sizes .m-most)
 
-stands-requires : tie.Need-stands-requires Inv-loop μ-loop
-stands-requires c κs = tt
+number-is-requires : tie.Need-number-is-requires Inv-loop μ-loop
+number-is-requires c κs = tt
 
 same-length : tie.Need-same-length Inv-loop μ-loop
 same-length c =
-    c .before .before .before .before .before .before .loop .inv .1 .long
+    c .before .before .before .before .before .before .loop .inv .1 .cursors .long
     ∙ sym (c .before .before .before .before .before .before .before .before .before .before .pre .2 .long)
 
 returns : tie.Need-returns Inv-loop μ-loop
@@ -86,12 +88,15 @@ returns c =
     let s = c .before .before .before .before .before .before .before .before .before .before in
     let l = c .before .before .before .before .before .before .loop in
     record {
+      upto = l .k;
+      cursors = l .inv .1;
+      stood = l .inv .2;
       so = λ e. absurd (never (sym e));
-      not-so = λ e all.
-          row-missing (lent s) (s .args .index .now) (s .args .i) (l .k) _ (reached _ _ (spot (c .before .before .before .before .before) .cursor))
-          (c .before .stands .result) (c .before .stands .ensures)
-          (not-true _ (c .if1 .taken))
-          (all (l .k) (omega arith));
+      not-so = λ e. (
+        omega arith,
+        row-missing (lent s) (s .args .index .now) (s .args .i) (l .k) _ (reached _ _ (spot (c .before .before .before .before .before) .cursor))
+            (c .before .number-is .result) (c .before .number-is .ensures) (not-true _ (c .if1 .taken)),
+      );
     }
 
 add-cursors : tie.Need-add-cursors Inv-loop μ-loop
@@ -105,7 +110,7 @@ mul-cursors c = omega (arith, spot (c .before .before .before .before .before) .
 
 slice-write-cursors : tie.Need-slice-write-cursors Inv-loop μ-loop
 slice-write-cursors c =
-    omega (arith, spot (c .before .before .before .before .before) .column, c .before .before .before .before .before .before .loop .inv .1 .long)
+    omega (arith, spot (c .before .before .before .before .before) .column, c .before .before .before .before .before .before .loop .inv .1 .cursors .long)
 
 add-k : tie.Need-add-k Inv-loop μ-loop
 add-k c = omega (arith, c .before .before .before .before .before .before .before .before .before .before .pre .0 .sized .sizes .rho-most)
@@ -118,22 +123,23 @@ loop-again c =
     let s = c .before .before .before .before .before .before .before .before .before .before in
     let l = c .before .before .before .before .before .before .loop in (
       omega arith,
-      cursors-next (lent s) (s .pre .0) (s .args .i) (s .pre .1) (l .k) (omega arith) (l .cursors) (l .inv .1),
-      row-more (lent s) (s .args .index .now) (s .args .i) (l .k) (l .inv .2)
+      passed-step (lent s) (s .pre .0) (s .args .i) (s .pre .1) (l .k) (s .args .cursors .now) (l .cursors) (omega arith) (l .inv .1),
+      entry-more (lent s) (s .args .index .now) (s .args .i) (l .k) (l .inv .2)
           (row-standing (lent s) (s .args .index .now) (s .args .i) (l .k) _ (reached _ _ (spot (c .before .before .before .before .before) .cursor))
-          (c .before .stands .result) (c .before .stands .ensures) (not-false _ (c .if1 .left))),
+          (c .before .number-is .result) (c .before .number-is .ensures) (not-false _ (c .if1 .left))),
     )
 
 same-length-2 : tie.Need-same-length-2 Inv-loop μ-loop
-same-length-2 c = c .before .loop .inv .1 .long ∙ sym (c .before .before .before .before .before .pre .2 .long)
+same-length-2 c = c .before .loop .inv .1 .cursors .long ∙ sym (c .before .before .before .before .before .pre .2 .long)
 
 returns-2 : tie.Need-returns-2 Inv-loop μ-loop
 returns-2 c =
-    let s = c .before .before .before .before .before in
     let l = c .before .loop in
-    let e : l .k ≡ s .args .rho = le-antisymm (l .inv .0) (omega arith) in
     record {
-      so = λ y. (cursors-row (lent s) (s .pre .0) (s .args .i) (s .pre .1) (l .cursors) (rw e at (l .inv .1)), rw e at (l .inv .2));
+      upto = l .k;
+      cursors = l .inv .1;
+      stood = l .inv .2;
+      so = λ y. le-antisymm (l .inv .0) (omega arith);
       not-so = λ n. absurd (never n);
     }
 
@@ -154,9 +160,9 @@ row-stands-spec =
     mul-c
     slice-read-c
     cast-c
-    add-stands
-    cast-stands
-    stands-requires
+    add-number-is
+    cast-number-is
+    number-is-requires
     same-length
     returns
     add-cursors

@@ -10,7 +10,7 @@ use Rattle.matrix.specs.Paper.Shapes.{matrixOf}
 use Rattle.matrix_index.specs.Filling.{Cursors}
 use Rattle.matrix_index.proofs.Cursors.{cursors-none}
 use Rattle.matrix_index_replay.specs.Replay.{RowStands}
-use Rattle.matrix_index_replay.proofs.Numbers.{rows-more, rows-ended}
+use Rattle.matrix_index_replay.proofs.Numbers.{row-all, row-behind, row-not, rows-more, rows-ended}
 use Rattle.matrix_index_replay.proofs.rows_stand.Statement.{statement}
 use Rattle.matrix_index_replay.proofs.rows_stand.Tie as tie
 
@@ -57,10 +57,12 @@ row-laid-out-requires c κs =
 
 returns : tie.Need-returns Inv-loop μ-loop
 returns c =
+    let s = c .before .before .before .before .before .before .before .before .before .before .before .before .before .before in
     let l = c .before .before .before .before .before .loop in
     record {
       so = λ e. absurd (never (sym e));
-      not-so = λ e all full. c .before .before .row-laid-out .ensures .not-so (not-true _ (c .if1 .taken)) (all (l .i) (omega arith));
+      not-so = λ e all full.
+          row-not (lent s) (l .i) (s .args .index .now) _ _ _ (c .before .before .row-laid-out .ensures) (not-true _ (c .if1 .taken)) (all (l .i) (omega arith));
     }
 
 add-i : tie.Need-add-i Inv-loop μ-loop
@@ -75,8 +77,12 @@ loop-again : tie.Need-loop-again Inv-loop μ-loop
 loop-again c =
     let s = c .before .before .before .before .before .before .before .before .before .before .before .before .before .before in
     let l = c .before .before .before .before .before .loop in
-    let y = c .before .before .row-laid-out .ensures .so (not-false _ (c .if1 .left)) in
-    (omega arith, y .0, rows-more (lent s) (s .args .index .now) (l .i) (l .inv .2) (y .1))
+    let y = not-false _ (c .if1 .left) in
+    let e = c .before .before .row-laid-out .ensures in (
+      omega arith,
+      row-behind (lent s) (l .i) (s .args .index .now) _ _ _ e (s .pre) (omega arith) y,
+      rows-more (lent s) (s .args .index .now) (l .i) (l .inv .2) (row-all (lent s) (l .i) (s .args .index .now) _ _ _ e y),
+    )
 
 slice-aggregate-starts-wrong : tie.Need-slice-aggregate-starts-wrong Inv-loop μ-loop
 slice-aggregate-starts-wrong c = sym (c .before .before .loop .inv .1 .long)

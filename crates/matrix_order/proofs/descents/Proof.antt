@@ -6,7 +6,7 @@ use native.Mathlib.Omega.{arith}
 use lib.ListN.{length}
 use Rattle.counting.specs.Paper.Sum.{sumBelow}
 use Rattle.matrix_order.specs.Order.{descent}
-use Rattle.matrix_order.proofs.Order.{falls, byte-bit, count-step, count-most, descent-le, first-counts}
+use Rattle.matrix_order.proofs.Order.{notAbove, byte-bit, count-step, count-most, descent-le, first-counts}
 use Rattle.matrix_order.proofs.descents.Statement.{statement}
 use Rattle.matrix_order.proofs.descents.Tie as tie
 
@@ -54,7 +54,7 @@ unfolding descent
 loop-again c =
     let l = c .before .before .before .before .args .list .now in
     let o = c .before .before .before .loop in
-    (omega arith, omega arith, count-step (descent l) (falls l (o .p)) (o .p) (o .count) refl (o .inv .2))
+    (omega arith, omega arith, count-step (descent l) (notAbove l (o .p)) (o .p) (o .count) refl (o .inv .2))
 
 returns : tie.Need-returns Inv-loop μ-loop
 returns c =

@@ -17,16 +17,16 @@ descents-requires c κs = (not-empty (c .before .before .before .pre), few (c .b
 row-descents-requires : tie.Need-row-descents-requires
 row-descents-requires c κs = laid (c .before .before .before .before .pre)
 
-beyond-requires : tie.Need-beyond-requires
-beyond-requires c κs = few (c .before .before .before .before .before .pre)
+too-large-requires : tie.Need-too-large-requires
+too-large-requires c κs = few (c .before .before .before .before .before .pre)
 
 returns : tie.Need-returns
 returns c =
     order-says (c .before .before .before .before .before .before .pre)
-    (c .before .before .descents .result) (c .before .row-descents .result) (c .beyond .result)
-    (c .before .before .descents .ensures) (c .before .row-descents .ensures) (c .beyond .ensures)
+    (c .before .before .descents .result) (c .before .row-descents .result) (c .too-large .result)
+    (c .before .before .descents .ensures) (c .before .row-descents .ensures) (c .too-large .ensures)
 
 pub in-order-spec : {M : Type 1} → statement M
 in-order-spec =
     tie.close
-    (tie.spec cast-m cast-rho descents-requires row-descents-requires beyond-requires returns)
+    (tie.spec cast-m cast-rho descents-requires row-descents-requires too-large-requires returns)

@@ -7,7 +7,7 @@ use native.Mathlib.Omega.{arith}
 use lib.ListN.{length}
 use Rattle.counting.specs.Paper.Sum.{sumBelow}
 use Rattle.matrix_order.specs.Order.{descent, rowDescent}
-use Rattle.matrix_order.proofs.Order.{falls, byte-bit, count-step, count-most, row-descent-le, first-row-counts, row-begins, few-rows}
+use Rattle.matrix_order.proofs.Order.{notAbove, byte-bit, count-step, count-most, row-descent-le, first-row-counts, row-begins, rows-small}
 use Rattle.matrix_order.proofs.row_descents.Statement.{statement}
 use Rattle.matrix_order.proofs.row_descents.Tie as tie
 
@@ -55,10 +55,10 @@ add-count c =
     let l = s .args .list .now in
     let rho = s .args .rho in
     let o = c .before .before .before .loop in
-    simp byte-bit (omega (arith, count-most (rowDescent l rho) (row-descent-le l rho) (o .i), few-rows (s .pre)))
+    simp byte-bit (omega (arith, count-most (rowDescent l rho) (row-descent-le l rho) (o .i), rows-small (s .pre)))
 
 add-i : tie.Need-add-i Inv-loop μ-loop
-add-i c = omega (arith, few-rows (c .before .before .before .before .pre))
+add-i c = omega (arith, rows-small (c .before .before .before .before .pre))
 
 loop-less : tie.Need-loop-less Inv-loop μ-loop
 loop-less c = omega arith
@@ -69,7 +69,7 @@ loop-again c =
     let a = c .before .before .before .before .args in
     let l = a .list .now in
     let o = c .before .before .before .loop in
-    (omega arith, omega arith, count-step (rowDescent l (a .rho)) (falls l (o .i * a .rho)) (o .i) (o .count) refl (o .inv .2))
+    (omega arith, omega arith, count-step (rowDescent l (a .rho)) (notAbove l (o .i * a .rho)) (o .i) (o .count) refl (o .inv .2))
 
 returns : tie.Need-returns Inv-loop μ-loop
 returns c =

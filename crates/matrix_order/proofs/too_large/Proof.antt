@@ -1,4 +1,4 @@
--- `matrix_order::beyond` meets its contract. The loop's invariant: `count` is the number of entries before `p` that are not below n. Assumes nothing.
+-- `matrix_order::too_large` meets its contract. The loop's invariant: `count` is the number of entries before `p` that are not below n. Assumes nothing.
 use mathlib.Core.Path.{_≡_, refl, ap, _∙_}
 use Prim.Native.Nat.{ℕ, _-_, _≤_}
 use native.Mathlib.Nat.{le-antisymm}
@@ -8,8 +8,8 @@ use lib.ListN.{length, getD}
 use Rattle.counting.specs.Paper.Sum.{sumBelow}
 use Rattle.matrix_order.specs.Order.{notBelow}
 use Rattle.matrix_order.proofs.Order.{byte-bit, count-step, count-most, not-below-le}
-use Rattle.matrix_order.proofs.beyond.Statement.{statement}
-use Rattle.matrix_order.proofs.beyond.Tie as tie
+use Rattle.matrix_order.proofs.too_large.Statement.{statement}
+use Rattle.matrix_order.proofs.too_large.Tie as tie
 
 abbrev Inv-loop : tie.InvT-loop
 Inv-loop list n count₀ p₀ count p = (p ≤ length list) × (count ≡ sumBelow p (notBelow list n))
@@ -56,8 +56,8 @@ returns c =
     let o = c .before .loop in
     o .inv .1 ∙ ap (λ (k : ℕ). sumBelow k (notBelow (a .list .now) (a .n))) (le-antisymm (o .inv .0) (c .loop-test .left))
 
-pub beyond-spec : {M : Type 1} → statement M
-beyond-spec =
+pub too-large-spec : {M : Type 1} → statement M
+too-large-spec =
     tie.close
     (tie.spec
     Inv-loop
