@@ -1,6 +1,6 @@
 -- `matrix_index_replay::row_stands`. The loop's invariant: the row stands at the places of its first `k` entries, whose cursors have moved on.
 use Prim.Native.Nat.{ℕ, _-_, _≤_, _<_}
-use mathlib.Core.Path.{_≡_, sym, _∙_}
+use mathlib.Core.Path.{sym, _∙_}
 use native.Mathlib.Nat.{le-antisymm}
 use native.Mathlib.Omega.{arith}
 use borrow.Author.Tests.{not-true, not-false}

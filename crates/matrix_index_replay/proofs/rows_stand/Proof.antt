@@ -62,7 +62,8 @@ returns c =
     record {
       so = λ e. absurd (never (sym e));
       not-so = λ e all full.
-          row-not (lent s) (l .i) (s .args .index .now) _ _ _ (c .before .before .row-laid-out .ensures) (not-true _ (c .if1 .taken)) (all (l .i) (omega arith));
+          row-not (lent s) (l .i) (s .args .index .now) _ _ _ (c .before .before .row-laid-out .ensures) (not-true _ (c .if1 .taken))
+          (all (l .i) (omega arith));
     }
 
 add-i : tie.Need-add-i Inv-loop μ-loop
