@@ -64,17 +64,17 @@ next-biased L a b r h =
 -- ---- the two cases of the next level
 
 -- the next number of a bit 0 and of a bit 1 is that of R + E cut to -L and L
-pub next-zero : (gamma L v z : ℕ) (r : ℤ) → z ≡ 0 → natAbs r ≤ L → nextLevel gamma (2 * L) (biased L r) z v ≡ biased L (cut L (r +ℤ subℕ (2 * v) gamma))
+pub next-zero : (weight L v z : ℕ) (r : ℤ) → z ≡ 0 → natAbs r ≤ L → nextLevel weight (2 * L) (biased L r) z v ≡ biased L (cut L (r +ℤ subℕ (2 * v) weight))
 unfolding nextLevel
-next-zero gamma L v z r e h =
-    ap (λ (t : Bool). cond t (min (2 * L) (biased L r + 2 * v - gamma)) (min (2 * L) (biased L r + gamma - 2 * v))) (eq-eqb z 0 e)
-    ∙ sym (next-biased L (2 * v) gamma r h)
+next-zero weight L v z r e h =
+    ap (λ (t : Bool). cond t (min (2 * L) (biased L r + 2 * v - weight)) (min (2 * L) (biased L r + weight - 2 * v))) (eq-eqb z 0 e)
+    ∙ sym (next-biased L (2 * v) weight r h)
 
-pub next-one : (gamma L v z : ℕ) (r : ℤ) → z ≡ 1 → natAbs r ≤ L → nextLevel gamma (2 * L) (biased L r) z v ≡ biased L (cut L (r +ℤ subℕ gamma (2 * v)))
+pub next-one : (weight L v z : ℕ) (r : ℤ) → z ≡ 1 → natAbs r ≤ L → nextLevel weight (2 * L) (biased L r) z v ≡ biased L (cut L (r +ℤ subℕ weight (2 * v)))
 unfolding nextLevel
-next-one gamma L v z r e h =
-    ap (λ (t : Bool). cond t (min (2 * L) (biased L r + 2 * v - gamma)) (min (2 * L) (biased L r + gamma - 2 * v))) (ne-eqb z 0 (λ q. omega arith))
-    ∙ sym (next-biased L gamma (2 * v) r h)
+next-one weight L v z r e h =
+    ap (λ (t : Bool). cond t (min (2 * L) (biased L r + 2 * v - weight)) (min (2 * L) (biased L r + weight - 2 * v))) (ne-eqb z 0 (λ q. omega arith))
+    ∙ sym (next-biased L weight (2 * v) r h)
 
 -- ---- the bit
 

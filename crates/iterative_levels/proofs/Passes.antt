@@ -1,6 +1,7 @@
 -- One cell more of a pass over the levels: the step laws of `update` and `bias`.
 --   moved-none    == no level is moved yet
 --   moved-step    == one level more is moved
+--   moved-cong    == weights that agree below n move the levels alike
 --   biased-none   == no level is kept as a number yet
 --   biased-step   == one level more is kept as a number
 -- Assumes nothing.
@@ -20,8 +21,8 @@ less : (i j : ℕ) → i < j + 1 → (i ≡ j → ⊥) → i < j
 less i j h ne = omega arith
 
 -- no level is moved yet
-pub moved-none : (v : List ℕ) (gamma L ceiling : ℕ) (z x : List ℕ) → length z ≡ 1023 → length x ≡ 1023 → Moved v 0 gamma L ceiling z x z x
-moved-none v gamma L ceiling z x lz lx =
+pub moved-none : (v : List ℕ) (w : ℕ → ℕ) (L ceiling : ℕ) (z x : List ℕ) → length z ≡ 1023 → length x ≡ 1023 → Moved v w 0 L ceiling z x z x
+moved-none v w L ceiling z x lz lx =
     record {
       long-word = lz;
       long-levels = lx;
@@ -31,10 +32,10 @@ moved-none v gamma L ceiling z x lz lx =
       rest-levels = λ i h. refl;
     }
 
-module _ (v : List ℕ) (j gamma L ceiling : ℕ) (z₀ x₀ z x : List ℕ) (t : Moved v j gamma L ceiling z₀ x₀ z x) (room : j < 1023) where
+module _ (v : List ℕ) (w : ℕ → ℕ) (j L ceiling : ℕ) (z₀ x₀ z x : List ℕ) (t : Moved v w j L ceiling z₀ x₀ z x) (room : j < 1023) where
   -- one level more is moved
-  pub moved-step : (y b : ℕ) → y ≡ nextLevel gamma ceiling (at x j) (at z j) (at v j) → b ≡ aboveMiddle L y
-      → Moved v (j + 1) gamma L ceiling z₀ x₀ (set z j b) (set x j y)
+  pub moved-step : (y b : ℕ) → y ≡ nextLevel (w j) ceiling (at x j) (at z j) (at v j) → b ≡ aboveMiddle L y
+      → Moved v w (j + 1) L ceiling z₀ x₀ (set z j b) (set x j y)
   moved-step y b e f =
       record {
         long-word = length-set z j b ∙ t .long-word;
@@ -57,17 +58,30 @@ module _ (v : List ℕ) (j gamma L ceiling : ℕ) (z₀ x₀ z x : List ℕ) (t 
         ];
       }
     where
-      here : (i : ℕ) → i ≡ j → y ≡ nextLevel gamma ceiling (at x₀ i) (at z₀ i) (at v i)
+      here : (i : ℕ) → i ≡ j → y ≡ nextLevel (w i) ceiling (at x₀ i) (at z₀ i) (at v i)
       here i q =
           e
-          ∙ ap₂ (λ (a b : ℕ). nextLevel gamma ceiling a b (at v j)) (t .rest-levels j (omega arith)) (t .rest-word j (omega arith))
-          ∙ ap (λ (i : ℕ). nextLevel gamma ceiling (at x₀ i) (at z₀ i) (at v i)) (sym q)
+          ∙ ap₂ (λ (a b : ℕ). nextLevel (w j) ceiling a b (at v j)) (t .rest-levels j (omega arith)) (t .rest-word j (omega arith))
+          ∙ ap (λ (i : ℕ). nextLevel (w i) ceiling (at x₀ i) (at z₀ i) (at v i)) (sym q)
 
       at-level : (i : ℕ) → i ≡ j → at (set x j y) i ≡ y
       at-level i q = elim (stored x j y i (omega (arith, t .long-levels))) [ inl p ↦ p .0 | inr p ↦ absurd (p .1 q) ]
 
       other-level : (i : ℕ) → (i ≡ j → ⊥) → at (set x j y) i ≡ at x i
       other-level i ne = elim (stored x j y i (omega (arith, t .long-levels))) [ inl p ↦ absurd (ne (p .1)) | inr p ↦ p .0 ]
+
+-- weights that agree below n move the levels alike
+pub moved-cong : (v : List ℕ) (w w′ : ℕ → ℕ) (n L ceiling : ℕ) (z x z′ x′ : List ℕ) → ((j : ℕ) → j < n → w j ≡ w′ j)
+    → Moved v w n L ceiling z x z′ x′ → Moved v w′ n L ceiling z x z′ x′
+moved-cong v w w′ n L ceiling z x z′ x′ e m =
+    record {
+      long-word = m .long-word;
+      long-levels = m .long-levels;
+      levels = λ j l. m .levels j l ∙ ap (λ (k : ℕ). nextLevel k ceiling (at x j) (at z j) (at v j)) (e j l);
+      bits = m .bits;
+      rest-word = m .rest-word;
+      rest-levels = m .rest-levels;
+    }
 
 -- no level is kept as a number yet
 pub biased-none : (L : ℕ) (R : List ℤ) (x : List ℕ) → length x ≡ 1023 → Biased 0 L R x x

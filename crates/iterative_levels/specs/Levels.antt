@@ -3,10 +3,11 @@
 --   mostKept                   == the largest number that a kept level's cell holds
 --   biased L R                 == R + L
 --   unbiased L x j             == the level that cell j of the array x stands for
---   nextLevel gamma c x z v    == the next level, kept so, of a bit z with v failing checks of gamma
+--   nextLevel weight c x z v   == the next level, kept so, of a bit z with v failing checks of its `weight`
 --   aboveMiddle L x            == 1 where x is above the middle, else 0
 --   Bounds                     == sizes small enough for the arrays
 --   Moved                      == bits and levels after the first n of them are brought to the next round
+--   Narrow                     == weights that fit in eight bits
 --   Bounded, Biased            == levels within their range, and an array that keeps them so
 --   Restorable                 == such an array, and room for its levels
 -- Assumes nothing.
@@ -36,24 +37,28 @@ unbiased L x j = subℕ (at x j) L
 
 -- a bit 0 rises by its failing checks, a bit 1 by its other checks
 unfoldable pub nextLevel : ℕ → ℕ → ℕ → ℕ → ℕ → ℕ
-nextLevel gamma ceiling x z v = cond (eqb z 0) (min ceiling (x + 2 * v - gamma)) (min ceiling (x + gamma - 2 * v))
+nextLevel weight ceiling x z v = cond (eqb z 0) (min ceiling (x + 2 * v - weight)) (min ceiling (x + weight - 2 * v))
 
 unfoldable pub aboveMiddle : ℕ → ℕ → ℕ
 aboveMiddle L x = flag (ltb L x)
 
-pub record Bounds (n gamma ceiling : ℕ) : Type 0 where
+pub record Bounds (n ceiling : ℕ) : Type 0 where
   pub columns : n ≤ 1023
-  pub weight : gamma ≤ 255
   pub levels : ceiling ≤ mostKept
 
--- the first n bits z and levels x become z′ and x′ by the votes v; the others stay
-pub record Moved (v : List ℕ) (n gamma L ceiling : ℕ) (z x z′ x′ : List ℕ) : Type 0 where
+-- the first n bits z and levels x become z′ and x′ by the votes v, bit j having w j checks; the others stay
+pub record Moved (v : List ℕ) (w : ℕ → ℕ) (n L ceiling : ℕ) (z x z′ x′ : List ℕ) : Type 0 where
   pub long-word : length z′ ≡ 1023
   pub long-levels : length x′ ≡ 1023
-  pub levels : (j : ℕ) → j < n → at x′ j ≡ nextLevel gamma ceiling (at x j) (at z j) (at v j)
+  pub levels : (j : ℕ) → j < n → at x′ j ≡ nextLevel (w j) ceiling (at x j) (at z j) (at v j)
   pub bits : (j : ℕ) → j < n → at z′ j ≡ aboveMiddle L (at x′ j)
   pub rest-word : (j : ℕ) → n ≤ j → at z′ j ≡ at z j
   pub rest-levels : (j : ℕ) → n ≤ j → at x′ j ≡ at x j
+
+-- n weights that fit in eight bits
+pub record Narrow (n : ℕ) (w : List ℕ) : Type 0 where
+  pub columns : n ≤ 1023
+  pub small : (j : ℕ) → j < n → at w j ≤ 255
 
 -- n levels from -L to L
 pub record Bounded (n L : ℕ) (R : List ℤ) : Type 0 where

@@ -1,14 +1,15 @@
 // Stored levels of bits: one pass of a round over them, and how they are kept between passes.
 // A level R from -L to L is kept as R + L: cutting at -L is then the subtraction that stops at 0.
-// Rests on `counting`, and on `quantiser_levels` for the cells of levels. Document 01: "Iterative voting", steps 4 to 6.
+// Rests on `counting`, and on `quantiser_levels` for the cells of levels. Document 01: "Iterative voting", steps 4 to 6. Document 02: card 2.
 use quantiser_levels::Cell;
 ghost use mathlib.Core.Path.{_≡_};
 ghost use Prim.Native.Nat.{min, _+_, _-_, _*_, _<_, _≤_};
 ghost use lib.IntN.{natAbs, subℕ};
 ghost use lib.ListN.{length};
 ghost use Rattle.counting.specs.Paper.Lists.{listed, over};
+ghost use Rattle.counting.specs.Places.{at};
 ghost use Rattle.quantiser_levels.specs.Paper.Samples.{mostLevel};
-ghost use Rattle.iterative_levels.specs.Levels.{mostKept, biased, unbiased, nextLevel, aboveMiddle, Bounds, Moved, Bounded, Biased, Restorable};
+ghost use Rattle.iterative_levels.specs.Levels.{mostKept, biased, unbiased, nextLevel, aboveMiddle, Bounds, Moved, Narrow, Bounded, Biased, Restorable};
 
 // A level as it is kept: from 0 to 2L.
 pub type Kept = u8;
@@ -29,18 +30,19 @@ fn shifted(x: u16, plus: u16, minus: u16, ceiling: u16) -> u16
     ceiling
 }
 
-// The next level of a bit z with v failing checks of gamma: E is 2v - gamma where z is 0, gamma - 2v where it is 1.
-fn next_level(x: Kept, z: u8, v: u8, gamma: u16, ceiling: u16) -> Kept
-    requires { ⌜ (gamma ≤ 255) × (ceiling ≤ mostKept) ⌝ }
-    ensures { λ r. ⌜ r ≡ nextLevel gamma ceiling x z v ⌝ }
+// The next level of a bit z, v of whose own `weight` checks fail: E is 2v - weight where z is 0, weight - 2v where it is 1.
+fn next_level(x: Kept, z: u8, v: u8, weight: u8, ceiling: u16) -> Kept
+    requires { ⌜ ceiling ≤ mostKept ⌝ }
+    ensures { λ r. ⌜ r ≡ nextLevel weight ceiling x z v ⌝ }
 {
     let level = x as u16;
     let twice = 2 * (v as u16);
+    let all = weight as u16;
     if z == 0 {
-        let y = shifted(level, twice, gamma, ceiling);
+        let y = shifted(level, twice, all, ceiling);
         return y as Kept;
     }
-    let y = shifted(level, gamma, twice, ceiling);
+    let y = shifted(level, all, twice, ceiling);
     y as Kept
 }
 
@@ -51,25 +53,39 @@ fn is_above(x: Kept, middle: Kept) -> u8
     if middle < x { 1 } else { 0 }
 }
 
-// Brings the first n levels and bits to the next round. Each reads its own votes, which are those of the old bits.
-// Only this repository's crates call it, with sizes of an accepted matrix.
+// Brings the first n levels and bits to the next round. Each reads its own votes, which are those of the old bits, and its own weight.
+// Only this repository's crates call it, with sizes and column weights of an accepted matrix.
+// All that it reads in the arrays has eight bits, so that the compiled loop takes sixteen places at a time.
 pub fn update(
     votes: &[u8; 1023],
+    weights: &[u8; 1023],
     n: usize,
-    gamma: u16,
     middle: Kept,
     ceiling: u16,
     bits: &mut [u8; 1023],
     levels: &mut [Kept; 1023],
 )
-    requires { ⌜ Bounds n gamma ceiling × (length (now bits) ≡ 1023) × (length (now levels) ≡ 1023) ⌝ }
-    ensures { λ _. ⌜ Moved (now (votes .entry)) n gamma middle ceiling (now (bits .entry)) (now (levels .entry)) (now (bits .exit)) (now (levels .exit)) ⌝ }
+    requires { ⌜ Bounds n ceiling × (length (now bits) ≡ 1023) × (length (now levels) ≡ 1023) ⌝ }
+    ensures { λ _. ⌜ Moved (now (votes .entry)) (at (now (weights .entry))) n middle ceiling (now (bits .entry)) (now (levels .entry)) (now (bits .exit)) (now (levels .exit)) ⌝ }
 {
     let mut j = 0;
     while j < n {
-        let x = next_level(levels[j], bits[j], votes[j], gamma, ceiling);
+        let x = next_level(levels[j], bits[j], votes[j], weights[j], ceiling);
         levels[j] = x;
         bits[j] = is_above(x, middle);
+        j += 1;
+    }
+}
+
+// Keeps the first n weights as numbers of eight bits; the cells past them stay. Only this repository's crates call it, with weights of up to 255.
+pub fn narrow(weights: &[u16; 1023], n: usize, kept: &mut [u8; 1023])
+    requires { ⌜ Narrow n (now weights) × (length (now kept) ≡ 1023) ⌝ }
+    ensures { λ _. ⌜ now (kept .exit) ≡ over (listed n (at (now (weights .entry)))) (now (kept .entry)) ⌝ }
+{
+    let mut j = 0;
+    while j < n {
+        let x = weights[j];
+        kept[j] = x as u8;
         j += 1;
     }
 }

@@ -1,9 +1,8 @@
--- Laws of the extrinsic sum E: it is the votes against the weight, it lies from -gamma to gamma, and it reads the bits below n alone.
---   extrinsic-zero     == of a bit 0, E is twice the votes less the weight
---   extrinsic-one      == of a bit 1, E is the weight less twice the votes
---   extrinsic-weight   == the magnitude of E is at most the column's weight
---   extrinsic-bound    == with an accepted matrix it is at most gamma
---   extrinsic-cong     == words that agree below n have the same E
+-- Laws of the extrinsic sum E: it is the votes against the weight, it lies from -weight to weight, and it reads the bits below n alone.
+--   extrinsic-zero    == of a bit 0, E is twice the votes less the weight
+--   extrinsic-one     == of a bit 1, E is the weight less twice the votes
+--   extrinsic-bound   == the magnitude of E is at most the column's weight
+--   extrinsic-cong    == words that agree below n have the same E
 -- Assumes nothing.
 use mathlib.Core.Path.{_≡_, refl, ap, _∙_}
 use Prim.Native.Nat.{ℕ, zero, suc, _+_, _*_, _%_, _≤_, _<_}
@@ -15,9 +14,8 @@ use Rattle.counting.specs.Paper.Sum.{sumBelow, same, unequal}
 use Rattle.counting.proofs.Sums.{sum-cong, sum-add, sum-mul, sum-mul-right, same-refl, same-ne, differ-eq, differ-ne}
 use Rattle.counting.proofs.Integers.{sumℤ-cong, sumℤ-difference, sumℤ-bound, abs-neg}
 use Rattle.matrix.specs.Paper.Code.{Matrix, entry, has, weight, fails}
-use Rattle.matrix.specs.Paper.PlainCheck.{Rows, Accepted}
+use Rattle.matrix.specs.Paper.PlainCheck.{Rows}
 use Rattle.matrix.proofs.Rows.{has-le}
-use Rattle.matrix.proofs.Weights.{weight-equal}
 use Rattle.majority_logic.specs.Paper.Votes.{votes}
 use Rattle.iterative_rounds.specs.Paper.Rounds.{others, sign, extrinsic}
 
@@ -91,21 +89,17 @@ module _ (H : Matrix) (r : Rows H) (z : ℕ → ℕ) (j : ℕ) where
       (fails-by H z i j ∙ ap (λ (b : ℕ). (others H z i j + has H i j * b) % 2) e))
       ∙ ap (subℕ (sumBelow (H .m) (λ i. has H i j))) twice
 
--- ---- "So E lies from −γ to γ"
+-- ---- "So E lies from −γ to γ", where γ is the number of the bit's own checks
 
 abs-part : (h p : ℕ) → natAbs (pos h *ℤ sign p) ≤ h
 abs-part h zero = omega (arith, abs-neg (h * 1))
 abs-part h (suc p) = omega arith
 
 -- the magnitude of E is at most the column's weight
-pub extrinsic-weight : (H : Matrix) (z : ℕ → ℕ) (j : ℕ) → natAbs (extrinsic H z j) ≤ weight H j
+pub extrinsic-bound : (H : Matrix) (z : ℕ → ℕ) (j : ℕ) → natAbs (extrinsic H z j) ≤ weight H j
 unfolding extrinsic weight
-extrinsic-weight H z j =
+extrinsic-bound H z j =
     sumℤ-bound (H .m) (λ i. has H i j) (λ i. pos (has H i j) *ℤ sign (others H z i j % 2)) (λ i l. abs-part (has H i j) (others H z i j % 2))
-
--- with an accepted matrix it is at most gamma
-pub extrinsic-bound : (H : Matrix) → Accepted H → (z : ℕ → ℕ) (j : ℕ) → j < H .n → natAbs (extrinsic H z j) ≤ H .gamma
-extrinsic-bound H a z j l = omega (arith, extrinsic-weight H z j, weight-equal H a (a .sizes .product) j l)
 
 -- ---- what E reads
 

@@ -79,9 +79,9 @@ lent-again H L z x s z₀ x₀ r h =
     }
 
 -- the bits after a pass are a word
-pub moved-word : (H : Matrix) (v : List ℕ) (gamma L ceiling : ℕ) (z x z′ x′ : List ℕ) → Moved v (H .n) gamma L ceiling z x z′ x′ → Word H (at z′)
+pub moved-word : (H : Matrix) (v : List ℕ) (w : ℕ → ℕ) (L ceiling : ℕ) (z x z′ x′ : List ℕ) → Moved v w (H .n) L ceiling z x z′ x′ → Word H (at z′)
 unfolding Word
-moved-word H v gamma L ceiling z x z′ x′ m j l = omega (arith, m .bits j l, above-middle-bit L (at x′ j))
+moved-word H v w L ceiling z x z′ x′ m j l = omega (arith, m .bits j l, above-middle-bit L (at x′ j))
 
 -- ---- the invariant
 
@@ -136,7 +136,7 @@ module _ (H : Matrix) (L limit : ℕ) (z₀ x₀ : List ℕ) (r : RunLent H L z�
         rw (add-one k)
         (record {
           within = omega arith;
-          holds = round-holds H (r .matrix) L (stateAt H L (stateOf L z₀ x₀) k) v z x z′ x′ (g .holds) (g .tallied .each) (t .moved);
+          holds = round-holds H (r .matrix .rows) L (stateAt H L (stateOf L z₀ x₀) k) v z x z′ x′ (g .holds) (g .tallied .each) (t .moved);
           parities = t .tallied .renewed .parities;
           tallied = t .tallied .tallied;
           earlier = λ i q. elim (ℕ-discrete i k) [ yes e ↦ rw e (omega (arith, now-fails)) | no ne ↦ g .earlier i (omega arith) ];

@@ -12,7 +12,7 @@ use Prim.Native.Nat.{ℕ, _*_, _≤_, _<_}
 use lib.IntN.{natAbs}
 use lib.ListN.{length}
 use Rattle.counting.specs.Places.{at}
-use Rattle.matrix.specs.Paper.Code.{Matrix, Word, failing}
+use Rattle.matrix.specs.Paper.Code.{Matrix, Word, weight, failing}
 use Rattle.matrix.specs.Paper.PlainCheck.{Accepted}
 use Rattle.iterative_tally.specs.Retally.{Retallied}
 use Rattle.iterative_rounds.specs.Paper.Rounds.{State, state, End, endOf}
@@ -40,7 +40,7 @@ pub record RunLent (H : Matrix) (L : ℕ) (z x : List ℕ) : Type 0 where
 
 -- bits z and levels x by the votes v, then parities p and votes become those of the new bits, f of whose checks fail
 pub record Rounded (H : Matrix) (L : ℕ) (v z x z′ x′ p p′ v′ : List ℕ) (f : ℕ) : Type 0 where
-  pub moved : Moved v (H .n) (H .gamma) L (2 * L) z x z′ x′
+  pub moved : Moved v (weight H) (H .n) L (2 * L) z x z′ x′
   pub tallied : Retallied H (at z′) p p′ v′ f
 
 -- the arrays hold the state at the end e, k and f are its rounds and its failing checks

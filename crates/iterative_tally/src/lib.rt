@@ -11,7 +11,7 @@ ghost use Rattle.syndrome_update.specs.Parities.{Parities};
 ghost use Rattle.iterative_tally.specs.Retally.{RenewedBy, Retallied};
 
 // The parities of the word `before` become those of the word `bits`: the rows of the flipped bits' columns are turned over,
-// or all rows are done anew where that is less work: with few rows a column, to reach the column costs more than its rows.
+// or all rows are done anew where that is less work: with few rows a column, to reach the column costs more than its rows. The lightest column stands for all: it is a matter of speed alone.
 // The flipped bits are listed at the front of `places`.
 fn renew(
     shape: Shape,

@@ -2,6 +2,7 @@
 --   flip-bit     == of a bit, `^` with the test turns it over where the test passes
 --   voted-none   == no bit is voted on yet
 --   voted-step   == one bit more is voted on
+--   voted-same   == what is voted goes by each bit's number of checks only
 -- Assumes nothing.
 use mathlib.Core.Path.{_≡_, refl, ap, _∙_}
 use mathlib.Core.Bool.{Bool, true, false}
@@ -28,17 +29,17 @@ flip-bit false (suc zero) h = refl
 flip-bit false (suc (suc b)) h = absurd (omega arith)
 
 -- no bit is voted on yet
-pub voted-none : (gamma : ℕ) (v l : List ℕ) → length l ≡ 1023 → VotedBits 0 gamma v l l
-voted-none gamma v l e = record { long = e; each = λ j h. absurd (omega arith); rest = λ j h. refl }
+pub voted-none : (w : ℕ → ℕ) (v l : List ℕ) → length l ≡ 1023 → VotedBits 0 w v l l
+voted-none w v l e = record { long = e; each = λ j h. absurd (omega arith); rest = λ j h. refl }
 
 -- one bit more
-pub voted-step : (n gamma : ℕ) (v old new : List ℕ) (b : ℕ) → n < 1023 → VotedBits n gamma v old new → b ≡ flipWhen (ltb gamma (2 * at v n)) (at new n)
-    → VotedBits (n + 1) gamma v old (set new n b)
-voted-step n gamma v old new b h t e =
+pub voted-step : (n : ℕ) (w : ℕ → ℕ) (v old new : List ℕ) (b : ℕ) → n < 1023 → VotedBits n w v old new → b ≡ flipWhen (ltb (w n) (2 * at v n)) (at new n)
+    → VotedBits (n + 1) w v old (set new n b)
+voted-step n w v old new b h t e =
     record {
       long = length-set new n b ∙ t .long;
       each = λ j l. elim (stored new n b j (omega (arith, t .long))) [
-        | inl q ↦ rw (q .1) ((rw (q .1) at (q .0)) ∙ e ∙ ap (flipWhen (ltb gamma (2 * at v n))) (t .rest n (omega arith)))
+        | inl q ↦ rw (q .1) ((rw (q .1) at (q .0)) ∙ e ∙ ap (flipWhen (ltb (w n) (2 * at v n))) (t .rest n (omega arith)))
         | inr q ↦ q .0 ∙ t .each j (below j l (q .1))
       ];
       rest = λ j l. elim (stored new n b j (omega (arith, t .long))) [ inl q ↦ absurd (omega (arith, q .1)) | inr q ↦ q .0 ∙ t .rest j (omega arith) ];
@@ -46,3 +47,8 @@ voted-step n gamma v old new b h t e =
   where
     below : (j : ℕ) → j < n + 1 → (j ≡ n → ⊥) → j < n
     below j l ne = omega arith
+
+-- what is voted goes by each bit's number of checks only
+pub voted-same : (n : ℕ) (w u : ℕ → ℕ) (v old new : List ℕ) → ((j : ℕ) → j < n → w j ≡ u j) → VotedBits n w v old new → VotedBits n u v old new
+voted-same n w u v old new e t =
+    record { long = t .long; each = λ j l. t .each j l ∙ ap (λ (k : ℕ). flipWhen (ltb k (2 * at v j)) (at old j)) (e j l); rest = t .rest }

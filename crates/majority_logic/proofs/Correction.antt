@@ -1,6 +1,7 @@
 -- One-step voting restores a codeword of which few bits were changed, and codewords lie far apart: on words as functions.
 --   votes-weight, votes-small, votes-le, votes-clean                       == how many votes a bit can have
---   flipped-kept, flipped-turned, flipped-clean, flipped-bit, flipped-by   == the word after the vote
+--   flipped-kept, flipped-turned, flipped-clean, flipped-bit               == the word after the vote
+--   flipped-own, flipped-equal                                             == as a program tests it: by the own weight, or by gamma where all weigh it
 --   stepWord-flipped, stepWord-bit                                         == the word that one-step voting writes
 --   failing-unchanged, failing-changed                                     == whether a check fails, by whether a bit was changed
 --   flipped-restores, flipped-passes, flipped-distance                     == the vote on a codeword with few changes
@@ -82,10 +83,16 @@ flipped-bit H z zw j h =
       | no g ↦ omega (arith, flipped-kept H z j (omega arith), zw j h)
     ]
 
--- what a program tests, as the weight of every column is gamma
-pub flipped-by : (H : Matrix) → Accepted H → (z : ℕ → ℕ) (j : ℕ) → j < H .n → flipped H z j ≡ flipWhen (ltb (H .gamma) (2 * votes H z j)) (z j)
+-- what a program tests: the votes against the column's own weight
+pub flipped-own : (H : Matrix) (z : ℕ → ℕ) (j w v : ℕ) → w ≡ weight H j → v ≡ votes H z j → flipWhen (ltb w (2 * v)) (z j) ≡ flipped H z j
 unfolding flipped
-flipped-by H a z j h = rw (weight-equal H a (a .sizes .product) j h)
+flipped-own H z j w v e t = rw (e, t) refl
+
+-- which is gamma where the sizes leave no room for columns of unlike weight
+pub flipped-equal : (H : Matrix) → Accepted H → H .m * H .rho ≡ H .n * H .gamma → (z : ℕ → ℕ) (j : ℕ) → j < H .n
+    → flipped H z j ≡ flipWhen (ltb (H .gamma) (2 * votes H z j)) (z j)
+unfolding flipped
+flipped-equal H a e z j h = rw (weight-equal H a e j h)
 
 -- one-step voting writes the word after the vote: that no vote is taken where no check fails changes no bit
 pub stepWord-flipped : (H : Matrix) (z : ℕ → ℕ) → stepWord H z ≡ flipped H z

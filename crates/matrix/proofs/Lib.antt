@@ -4,3 +4,4 @@ pub mod Linear
 pub mod Ordered
 pub mod Tallies
 pub mod PlainCheck
+pub mod EqualWeights

@@ -2,24 +2,28 @@
 --   sizes-say, sizes-fit           == what the test of the sizes says, both ways
 --   entry-says, entry-clear        == the test of refusal 3: what it says where it passes, and where it fails
 --   weight-says, weight-clear      == the test of refusal 4: what it says where it passes, and where it fails
+--   none-says, none-clear          == the test for a column that weighs gamma: what it says where it passes, and where it fails
+--   none-passes, none-fails        == and what makes it pass and fail
 --   overlap-says, overlap-clear    == the test of refusal 5: what it says where it passes, and where it fails
 --   entries, weights, overlaps     == the tests of refusals 3, 4 and 5 decide their statements
 --   clear-below, clear-ascending   == a list without a bad entry is rows of ascending column numbers below n
 --   rows-clear                     == and such rows have no bad entry
+--   passes                         == a search of a test that decides a statement, which holds nowhere, lets the rest speak
 --   accepts                        == a matrix to which no refusal applies is accepted
 --   reads, reads-only              == the verdict of a matrix has its reading, and is the only one that has
 --   accepted-is, is-accepted       == what an accepted matrix is, both ways
+--   gamma-is-least                 == of an accepted matrix gamma is the smallest column weight
 -- Assumes nothing.
 use mathlib.Core.Path.{_≡_, sym, ap, subst, _∙_}
 use mathlib.Core.Bool.{Bool, true, false, _&&_}
-use mathlib.Core.Logic.{inl, inr}
+use mathlib.Core.Logic.{_⊎_, inl, inr}
 use Prim.Native.Nat.{ℕ, suc, _+_, _*_, _-_, _/_, _%_, _≤_, _<_}
 use native.Mathlib.Nat.{div-add-mod', div-lt-iff-lt-mul, mod-lt}
 use native.Mathlib.Decide.{ℕ-discrete, decLt}
 use native.Mathlib.Omega.{arith}
-use borrow.Author.Tests.{ltb-true, leb-true, eqb-true, eqb-false, not-true, not-false, lt-ltb, le-ltb, le-leb, eq-eqb, ne-eqb}
+use borrow.Author.Tests.{ltb-true, leb-true, eqb-true, not-true, not-false, lt-ltb, le-ltb, le-leb, eq-eqb, ne-eqb}
 use lib.Arith.{digits-mod}
-use lib.Dec.{ltb, leb}
+use lib.Dec.{ltb, leb, eqb}
 use lib.ListN.{length, getD}
 use Rattle.counting.specs.Paper.Search.{first, FirstAt}
 use Rattle.counting.proofs.Searches.{never, cases, and-left, and-right, and-both, any-at, any-found, first-none, first-unique}
@@ -27,9 +31,9 @@ use Rattle.counting.proofs.Decisions.{Decides, test-fails, found-or-missed}
 use Rattle.answers.specs.Paper.Answers.{Verdict, accepted, refused, refuseAt}
 use Rattle.answers.proofs.Verdicts.{not-accepted}
 use Rattle.matrix.specs.Paper.Code.{Matrix, entry, weight, common}
-use Rattle.matrix.specs.Paper.Check.{within, sizesFit, badEntry, badWeight, overlapping, listOf, checkOf}
-use Rattle.matrix.specs.Paper.PlainCheck.{Sizes, BadEntry, BadWeight, Overlap, Never, Rows, Accepted}
-use Rattle.matrix.specs.Paper.PlainCheck.{Reads, sizes-out, length-wrong, entry-bad, weight-bad, rows-overlap, fine}
+use Rattle.matrix.specs.Paper.Check.{within, sizesFit, badEntry, badWeight, noLeast, overlapping, listOf, checkOf}
+use Rattle.matrix.specs.Paper.PlainCheck.{Sizes, BadEntry, BadWeight, Least, Overlap, Never, Rows, Accepted}
+use Rattle.matrix.specs.Paper.PlainCheck.{Reads, sizes-out, length-wrong, entry-bad, weight-bad, weight-none, rows-overlap, fine}
 use Rattle.matrix.proofs.Rows.{stands}
 
 -- a number in its range
@@ -42,12 +46,21 @@ range-least lo x hi e = leb-true lo x (and-left (leb lo x) (leb x hi) e)
 range-most : (lo x hi : ℕ) → within lo x hi ≡ true → x ≤ hi
 range-most lo x hi e = leb-true x hi (and-right (leb lo x) (leb x hi) e)
 
+out-of-range : (lo x hi : ℕ) → within lo x hi ≡ false → (x < lo) ⊎ (hi < x)
+out-of-range lo x hi e =
+    elim (decLt x lo) [
+      | yes l ↦ inl l
+      | no g ↦
+          elim (decLt hi x) [ yes l ↦ inr l | no f ↦ absurd (never (sym (in-range lo x hi (omega arith) (omega arith)) ∙ e)) ]
+    ]
+
 -- a search of a test that decides a statement: its refusal is given at the first place, or passed
 module _ {t : ℕ → Bool} {P : ℕ → Type 0} (d : Decides t P) where
   refuses : (k b x : ℕ) (v : Verdict) → FirstAt P b x → refuseAt k (first t b) b v ≡ refused k x
   refuses k b x v f = rw (first-unique t b x (d .says) (d .clear) f, lt-ltb x b (f .below))
 
-  passes : (k b : ℕ) (v : Verdict) → Never P b → refuseAt k (first t b) b v ≡ v
+  -- where the statement holds nowhere, the rest speaks
+  pub passes : (k b : ℕ) (v : Verdict) → Never P b → refuseAt k (first t b) b v ≡ v
   passes k b v h = rw (first-none t b (λ x l. test-fails d x (h x l)), le-ltb b b (omega arith))
 
 module _ (H : Matrix) where
@@ -71,7 +84,7 @@ module _ (H : Matrix) where
         rho-most = range-most 2 (H .rho) 32 rho′;
         gamma-least = range-least 1 (H .gamma) 32 gamma′;
         gamma-most = range-most 1 (H .gamma) 32 gamma′;
-        product = eqb-true (H .m * H .rho) (H .n * H .gamma) (and-right (within 1 (H .gamma) 32) _ e₃);
+        product = leb-true (H .n * H .gamma) (H .m * H .rho) (and-right (within 1 (H .gamma) 32) _ e₃);
       }
 
   pub sizes-fit : Sizes H → sizesFit H ≡ true
@@ -80,7 +93,7 @@ module _ (H : Matrix) where
       and-both _ _ (in-range 2 (H .n) 1023 (s .n-least) (s .n-most))
       (and-both _ _ (in-range 1 (H .m) 1023 (s .m-least) (s .m-most))
       (and-both _ _ (in-range 2 (H .rho) 32 (s .rho-least) (s .rho-most))
-      (and-both _ _ (in-range 1 (H .gamma) 32 (s .gamma-least) (s .gamma-most)) (eq-eqb _ _ (s .product)))))
+      (and-both _ _ (in-range 1 (H .gamma) 32 (s .gamma-least) (s .gamma-most)) (le-leb _ _ (s .product)))))
 
   -- refusal 3
   pub entry-says : (p : ℕ) → badEntry H p ≡ true → BadEntry H p
@@ -103,11 +116,28 @@ module _ (H : Matrix) where
   -- refusal 4
   pub weight-says : (j : ℕ) → badWeight H j ≡ true → BadWeight H j
   unfolding badWeight
-  weight-says j e = eqb-false (weight H j) (H .gamma) (not-true _ e)
+  weight-says j e = out-of-range (H .gamma) (weight H j) 32 (not-true _ e)
 
   pub weight-clear : (j : ℕ) → badWeight H j ≡ false → BadWeight H j → ⊥
   unfolding badWeight
-  weight-clear j e h = h (eqb-true (weight H j) (H .gamma) (not-false _ e))
+  weight-clear j e (inl h) = omega (arith, range-least (H .gamma) (weight H j) 32 (not-false _ e))
+  weight-clear j e (inr h) = omega (arith, range-most (H .gamma) (weight H j) 32 (not-false _ e))
+
+  pub none-says : noLeast H ≡ true → Never (Least H) (H .n)
+  unfolding noLeast
+  none-says e j l w = never (sym (any-at (λ x. eqb (weight H x) (H .gamma)) (H .n) j l (eq-eqb (weight H j) (H .gamma) w)) ∙ not-true _ e)
+
+  pub none-clear : noLeast H ≡ false → (j : ℕ) × (j < H .n) × Least H j
+  unfolding noLeast
+  none-clear e =
+      let f = any-found (λ x. eqb (weight H x) (H .gamma)) (H .n) (not-false _ e) in
+      (f .0, f .1, eqb-true (weight H (f .0)) (H .gamma) (f .2))
+
+  pub none-passes : Never (Least H) (H .n) → noLeast H ≡ true
+  none-passes h = cases (noLeast H) (λ y. y) (λ o. let c = none-clear o in absurd (h (c .0) (c .1) (c .2)))
+
+  pub none-fails : (j : ℕ) × (j < H .n) × Least H j → noLeast H ≡ false
+  none-fails c = cases (noLeast H) (λ y. absurd (none-says y (c .0) (c .1) (c .2))) (λ o. o)
 
   -- refusal 5
   pub overlap-says : (i : ℕ) → overlapping H i ≡ true → Overlap H i
@@ -157,13 +187,20 @@ module _ (H : Matrix) where
         says-weight x f = says-list ∙ passes entries 3 _ _ clear ∙ refuses weights 4 _ x _ f
 
         module _ (even : Never (BadWeight H) (H .n)) where
-          says-overlap : (x : ℕ) → FirstAt (Overlap H) (H .m) x → checkOf H ≡ refused 5 x
+          says-none : Never (Least H) (H .n) → checkOf H ≡ refused 4 (H .n)
           unfolding listOf
-          says-overlap x f = says-list ∙ passes entries 3 _ _ clear ∙ passes weights 4 _ _ even ∙ refuses overlaps 5 _ x _ f
+          says-none h = says-list ∙ passes entries 3 _ _ clear ∙ passes weights 4 _ _ even ∙ rw (none-passes h)
 
-          says-accepted : Never (Overlap H) (H .m) → checkOf H ≡ accepted
-          unfolding listOf
-          says-accepted apart = says-list ∙ passes entries 3 _ _ clear ∙ passes weights 4 _ _ even ∙ passes overlaps 5 _ _ apart
+          module _ (least : (j : ℕ) × (j < H .n) × Least H j) where
+            says-rest : checkOf H ≡ refuseAt 5 (first (overlapping H) (H .m)) (H .m) accepted
+            unfolding listOf
+            says-rest = says-list ∙ passes entries 3 _ _ clear ∙ passes weights 4 _ _ even ∙ rw (none-fails least)
+
+            says-overlap : (x : ℕ) → FirstAt (Overlap H) (H .m) x → checkOf H ≡ refused 5 x
+            says-overlap x f = says-rest ∙ refuses overlaps 5 _ x _ f
+
+            says-accepted : Never (Overlap H) (H .m) → checkOf H ≡ accepted
+            says-accepted apart = says-rest ∙ passes overlaps 5 _ _ apart
 
   -- a list without a bad entry is rows of ascending column numbers below n
   module _ (whole : length (H .list) ≡ H .m * H .rho) (clear : Never (BadEntry H) (length (H .list))) where
@@ -219,8 +256,8 @@ module _ (H : Matrix) where
 
   -- no refusal applies: the matrix is accepted
   pub accepts : Sizes H → length (H .list) ≡ H .m * H .rho → Never (BadEntry H) (length (H .list)) → Never (BadWeight H) (H .n)
-      → Never (Overlap H) (H .m) → Accepted H
-  accepts s whole clear even apart =
+      → (j : ℕ) × (j < H .n) × Least H j → Never (Overlap H) (H .m) → Accepted H
+  accepts s whole clear even least apart =
       record {
         sizes = s;
         rows =
@@ -230,8 +267,17 @@ module _ (H : Matrix) where
               ascending = clear-ascending whole clear;
               apart = λ i i′ l h. elim (decLt (common H i i′) 2) [ yes y ↦ omega arith | no f ↦ absurd (apart i (omega arith) (i′, l, h, omega arith)) ];
             };
-        weights = λ j l. elim (ℕ-discrete (weight H j) (H .gamma)) [ yes e ↦ e | no f ↦ absurd (even j l f) ];
+        weights = λ j l. (
+          elim (decLt (weight H j) (H .gamma)) [ yes b ↦ absurd (even j l (inl b)) | no f ↦ omega arith ],
+          elim (decLt 32 (weight H j)) [ yes b ↦ absurd (even j l (inr b)) | no f ↦ omega arith ],
+        );
+        least = least;
       }
+
+-- no column of an accepted matrix lies outside
+inside-all : (H : Matrix) → Accepted H → Never (BadWeight H) (H .n)
+inside-all H a j l (inl h) = omega (arith, a .weights j l .0)
+inside-all H a j l (inr h) = omega (arith, a .weights j l .1)
 
 -- the verdict of a matrix is the only one that has its reading
 pub reads-only : (H : Matrix) (v : Verdict) → Reads H v → v ≡ checkOf H
@@ -239,10 +285,11 @@ reads-only H _ (sizes-out h) = sym (says-sizes H h)
 reads-only H _ (length-wrong s h) = sym (says-length H s h)
 reads-only H _ (entry-bad s l f) = sym (says-entry H s l _ f)
 reads-only H _ (weight-bad s l c f) = sym (says-weight H s l c _ f)
-reads-only H _ (rows-overlap s l c e f) = sym (says-overlap H s l c e _ f)
+reads-only H _ (weight-none s l c e h) = sym (says-none H s l c e h)
+reads-only H _ (rows-overlap s l c e w f) = sym (says-overlap H s l c e w _ f)
 reads-only H _ (fine a) =
     sym
-    (says-accepted H (a .sizes) (a .rows .whole) (rows-clear H (a .sizes) (a .rows)) (λ j l h. h (a .weights j l))
+    (says-accepted H (a .sizes) (a .rows .whole) (rows-clear H (a .sizes) (a .rows)) (inside-all H a) (a .least)
     (λ i l o. omega (arith, a .rows .apart i (o .0) (o .1) (o .2), o .3)))
 
 -- the verdict that is given has its reading
@@ -260,8 +307,10 @@ decides H =
                 elim (found-or-missed (weights H) (H .n)) [
                   | inl f ↦ (_, weight-bad s l c f)
                   | inr e ↦
+                      cases (noLeast H) (λ t. (_, weight-none s l c e (none-says H t)))
+                      (λ t.
                       elim (found-or-missed (overlaps H) (H .m))
-                      [ inl f ↦ (_, rows-overlap s l c e f) | inr a ↦ (accepted, fine (accepts H s l c e a)) ]
+                      [ inl f ↦ (_, rows-overlap s l c e (none-clear H t) f) | inr a ↦ (accepted, fine (accepts H s l c e (none-clear H t) a)) ])
                 ]
           ]
     ])
@@ -277,7 +326,8 @@ only-fine (sizes-out h) e = absurd (not-accepted e)
 only-fine (length-wrong s h) e = absurd (not-accepted e)
 only-fine (entry-bad s l f) e = absurd (not-accepted e)
 only-fine (weight-bad s l c f) e = absurd (not-accepted e)
-only-fine (rows-overlap s l c w f) e = absurd (not-accepted e)
+only-fine (weight-none s l c w h) e = absurd (not-accepted e)
+only-fine (rows-overlap s l c w h f) e = absurd (not-accepted e)
 only-fine (fine a) e = a
 
 -- what an accepted matrix is, both ways
@@ -286,3 +336,7 @@ accepted-is H e = only-fine (reads H) e
 
 pub is-accepted : (H : Matrix) → Accepted H → checkOf H ≡ accepted
 is-accepted H a = sym (reads-only H accepted (fine a))
+
+-- of an accepted matrix gamma is the smallest column weight: no column weighs less, and some column weighs as much
+pub gamma-is-least : (H : Matrix) → Accepted H → ((j : ℕ) → j < H .n → H .gamma ≤ weight H j) × ((j : ℕ) × (j < H .n) × (weight H j ≡ H .gamma))
+gamma-is-least H a = (λ j l. a .weights j l .0, a .least)

@@ -3,3 +3,4 @@ pub mod Code
 pub mod Check
 pub mod PlainCheck
 pub mod Shapes
+pub mod EqualWeights

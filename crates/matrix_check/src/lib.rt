@@ -1,5 +1,5 @@
 // The matrix check: accepts the parity-check matrix or refuses it, and passes on its sizes.
-// Rests on `matrix`, `matrix_weights`, `matrix_meeting`, `matrix_overlap` and `answers`. Document 01: "The code and the block", "Refused for the input" 1 to 5.
+// Rests on `matrix`, `matrix_weights`, `matrix_meeting`, `matrix_overlap` and `answers`. Document 01: "The code and the block", "Refused for the input" 1 to 5. Document 02: card 2.
 use answers::Checked;
 use answers::Refusal;
 pub use matrix::Shape;
@@ -7,13 +7,13 @@ use matrix_meeting::pair_twice;
 use matrix_overlap::exact_overlap;
 use matrix_weights::first_off_weight;
 use matrix_weights::walk;
+use matrix_weights::weights_fit;
 ghost use mathlib.Core.Path.{_≡_};
 ghost use mathlib.Core.List.{[]};
 ghost use Rattle.counting.specs.Paper.Search.{first};
 ghost use Rattle.answers.specs.Paper.Enums.{verdictOf};
 ghost use Rattle.matrix.specs.Paper.Check.{within, sizesFit, overlapping, checkOf};
-ghost use Rattle.matrix.specs.Paper.PlainCheck.{BadWeight, Never};
-ghost use Rattle.matrix.specs.Ordered.{Sized, Ordered};
+ghost use Rattle.matrix.specs.Ordered.{Sized, Ordered, WeightsFit};
 ghost use Rattle.matrix.specs.Paper.Shapes.{matrixOf};
 ghost use Rattle.matrix_check.specs.Parts.{Fits};
 
@@ -34,7 +34,7 @@ fn sizes_fit(shape: Shape) -> bool
         & in_range(1, shape.m, 1023)
         & in_range(2, shape.rho, 32)
         & in_range(1, shape.gamma, 32)
-        & (ones_by_row == ones_by_column)
+        & (ones_by_column <= ones_by_row)
 }
 
 // Whether the sizes are in range and go together and the list has its length: refusals 1 and 2 as one question.
@@ -63,7 +63,7 @@ fn first_overlap(shape: Shape, list: &[u16]) -> usize
 
 // Refusal 5, where refusals 1 to 4 pass the matrix. Only this repository's crates call it, after asking these.
 pub fn ask_overlap(shape: Shape, list: &[u16]) -> Checked
-    requires { ⌜ Ordered (matrixOf shape (now list)) × Never (BadWeight (matrixOf shape (now list))) (shape .n) ⌝ }
+    requires { ⌜ Ordered (matrixOf shape (now list)) × WeightsFit (matrixOf shape (now list)) ⌝ }
     ensures { λ r. ⌜ verdictOf r ≡ checkOf (matrixOf shape (now (list .entry))) ⌝ }
 {
     let m = shape.m as usize;
@@ -74,22 +74,22 @@ pub fn ask_overlap(shape: Shape, list: &[u16]) -> Checked
     Checked::Accepted
 }
 
-// The matrix check once the sizes and the length are right: refusals 3 to 5.
+// The matrix check once the sizes and the length are right: refusals 3 to 5. Whether refusal 4 is given, one quick question says;
+// its place is the first column outside gamma to 32, which the search says is n where there is none: then none weighs gamma.
 fn check_list(shape: Shape, list: &[u16]) -> Checked
     requires { ⌜ Sized (matrixOf shape (now list)) ⌝ }
     ensures { λ r. ⌜ verdictOf r ≡ checkOf (matrixOf shape (now (list .entry))) ⌝ }
 {
-    let n = shape.n as usize;
     let mut weights = [0u16; 1023];
     let p = walk(shape, list, &mut weights);
     if p < list.len() {
         return Checked::Refused(Refusal::Entry(p as u16));
     }
-    let j = first_off_weight(shape, &weights);
-    if j < n {
-        return Checked::Refused(Refusal::Weight(j as u16));
+    if weights_fit(shape, &weights) {
+        return ask_overlap(shape, list);
     }
-    ask_overlap(shape, list)
+    let j = first_off_weight(shape, &weights);
+    Checked::Refused(Refusal::Weight(j as u16))
 }
 
 // The matrix check. No input needs to be looked at before.

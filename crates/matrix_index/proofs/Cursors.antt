@@ -1,10 +1,6 @@
 -- Laws of the cursors, which have for each column where its next row goes.
---   start-is        == a starting place as it is computed
---   start-small     == it is at most 1,024 * 32
 --   reached         == a row's place as the code adds it up
---   start-equal     == where every column has gamma ones, column j starts at j * gamma
 --   entry-alone     == no earlier entry of a row has the column of a later one
---   before-few      == the rows before row i have no more ones than entries
 --   cursor-is       == the cursor of the next entry's column is at that entry's place
 --   cursors-none    == before the first row each cursor is at its column's starting place
 --   cursors-step    == one entry more
@@ -15,73 +11,57 @@
 --   passed-row      == a row with all of its entries passed is done
 --   Spot            == the next place of the list, its column, and the place of the row there
 --   spot-of         == the next entry has its spot
---   place-equal     == where every column has gamma ones, the spot is that of the index
+--   place-by        == counted from the index's starting places, the spot is that of the index
 --   spot-place      == so the cursor tells the row's place in the index
 --   spot-inside     == which lies in it
+--   spot-low        == so no cursor outgrows its cell
 -- Assumes nothing.
 use mathlib.Core.Path.{_≡_, refl, sym, _∙_}
 use mathlib.Core.List.{List}
 use mathlib.Core.Logic.{inl, inr}
-use Prim.Native.Nat.{ℕ, suc, _+_, _*_, _≤_, _<_}
-use native.Mathlib.Nat.{mul-le-mul}
+use Prim.Native.Nat.{ℕ, suc, _+_, _*_, _<_}
 use native.Mathlib.Numerals.{add-one}
 use native.Mathlib.Omega.{arith}
-use lib.ListN.{length, set, replicate, length-set, length-replicate}
+use lib.ListN.{length, set, length-set}
 use lib.Seq.{getD-set-other}
-use Rattle.counting.specs.Paper.Sum.{sumBelow, same}
+use Rattle.counting.specs.Paper.Sum.{sumBelow}
 use Rattle.counting.specs.Paper.Lists.{listed, over}
 use Rattle.counting.specs.Places.{at}
-use Rattle.counting.proofs.Sums.{sum-cong, sum-const, sum-zero, sum-bound, same-le, same-refl, same-ne}
+use Rattle.counting.proofs.Sums.{sum-zero, same-refl, same-ne}
 use Rattle.counting.proofs.Ascending.{ascending-lt}
 use Rattle.counting.proofs.Writes.{stored, over-long, over-at}
 use Rattle.matrix.specs.Paper.Code.{Matrix, entry, has}
 use Rattle.matrix.specs.Paper.PlainCheck.{Accepted}
 use Rattle.matrix.specs.Ordered.{Ordered}
 use Rattle.matrix.proofs.Ordered.{few, in-list, column-in, column-below, columns-ascend}
-use Rattle.matrix.proofs.Weights.{weight-equal}
+use Rattle.matrix.proofs.Rows.{few-entries}
 use Rattle.matrix_index.specs.Paper.Index.{columnStart, indexSize}
-use Rattle.matrix_index.specs.Filling.{before, inRow, startBy, rowPlace, placeBy, Cursors, Passed}
+use Rattle.matrix_index.specs.Filling.{before, inRow, rowPlace, placeBy, Cursors, Passed}
 use Rattle.matrix_index.proofs.Parts.{place-inside}
 
 -- the next place of the list, its column, and the place of the row there
-pub record Spot (H : Matrix) (i k : ℕ) (c : List ℕ) : Type 0 where
+pub record Spot (H : Matrix) (s : ℕ → ℕ) (i k : ℕ) (c : List ℕ) : Type 0 where
   pub place : i * H .rho + k < length (H .list)
   pub few : i * H .rho + k < 32736
   pub column : at (H .list) (i * H .rho + k) < 1023
-  pub cursor : suc (H .n) + at c (at (H .list) (i * H .rho + k)) ≡ placeBy H i k
-  pub low : at c (at (H .list) (i * H .rho + k)) < 65505
-
--- a starting place as it is computed
-pub start-is : (gamma j : ℕ) → j * gamma ≡ startBy gamma j
-unfolding startBy
-start-is gamma j = refl
-
--- it is at most 1,024 * 32
-pub start-small : (j gamma : ℕ) → j ≤ 1024 → gamma ≤ 32 → j * gamma ≤ 32768
-start-small j gamma h l = mul-le-mul {n₁ = j} {m₁ = gamma} {n₂ = 1024} {m₂ = 32} h l
+  pub cursor : suc (H .n) + at c (at (H .list) (i * H .rho + k)) ≡ placeBy H s i k
 
 -- a row's place as the code adds it up
 pub reached : (n c : ℕ) {p : ℕ} → suc n + c ≡ p → n + 1 + c ≡ p
 reached n c e = omega (arith, e)
 
--- the rows before row i have no more ones than entries
-pub before-few : (H : Matrix) (i j : ℕ) → before H i j ≤ i * H .rho
-unfolding before has
-before-few H i j = sum-bound i (H .rho) (λ r h. omega (arith, sum-bound (H .rho) 1 {f = λ k. same (entry H r k) j} (λ k l. same-le (entry H r k) j)))
-
-module _ (H : Matrix) (o : Ordered H) where
+module _ (H : Matrix) (o : Ordered H) (s : ℕ → ℕ) where
   -- before the first row each cursor is at its column's starting place
-  pub cursors-none : (c : List ℕ) → c ≡ over (listed (H .n) (startBy (H .gamma))) (replicate 1023 0) → Cursors H 0 0 c
+  pub cursors-none : (old c : List ℕ) → length old ≡ 1023 → c ≡ over (listed (H .n) s) old → Cursors H s 0 0 c
   unfolding before inRow sumBelow
-  cursors-none c e =
+  cursors-none old c l e =
       record {
-        long = over-long (H .n) (startBy (H .gamma)) (replicate 1023 0) c e (omega (arith, o .sized .sizes .n-most, length-replicate {A = ℕ} 1023 0))
-            ∙ length-replicate {A = ℕ} 1023 0;
-        each = λ j l. over-at (H .n) (startBy (H .gamma)) (replicate 1023 0) c e 0 j l ∙ omega arith;
+        long = over-long (H .n) s old c e (omega (arith, l, o .sized .sizes .n-most)) ∙ l;
+        each = λ j h. over-at (H .n) s old c e 0 j h ∙ omega arith;
       }
 
   -- nothing is passed yet
-  pub passed-none : (i : ℕ) (c : List ℕ) → Cursors H i 0 c → Passed H i 0 c c
+  pub passed-none : (i : ℕ) (c : List ℕ) → Cursors H s i 0 c → Passed H s i 0 c c
   passed-none i c u = record { cursors = u; beyond = λ j l. refl }
 
   module _ (i : ℕ) (row : i < H .m) where
@@ -92,27 +72,14 @@ module _ (H : Matrix) (o : Ordered H) where
         sum-zero k (λ q l. same-ne (entry H i q) (entry H i k) (λ e.
         omega (arith, ascending-lt (entry H i) (H .rho) (λ x. columns-ascend o i x row) q k l h)))
 
-    module _ (k : ℕ) (h : k < H .rho) (c : List ℕ) (u : Cursors H i k c) where
+    module _ (k : ℕ) (h : k < H .rho) (c : List ℕ) (u : Cursors H s i k c) where
       -- the cursor of the next entry's column is at that entry's place
-      pub cursor-is : suc (H .n) + at c (entry H i k) ≡ placeBy H i k
+      pub cursor-is : suc (H .n) + at c (entry H i k) ≡ placeBy H s i k
       unfolding placeBy
       cursor-is = omega (arith, u .each (entry H i k) (column-in o i k row h), entry-alone k h)
 
-      -- no cursor outgrows its cell
-      cursor-low : at c (entry H i k) < 65505
-      unfolding startBy
-      cursor-low =
-          omega (
-            arith,
-            u .each (entry H i k) (column-in o i k row h),
-            entry-alone k h,
-            mul-le-mul {n₁ = entry H i k} {m₁ = H .gamma} {n₂ = 1022} {m₂ = 32} (omega (arith, column-below o i k row h)) (o .sized .sizes .gamma-most),
-            before-few H i (entry H i k),
-            mul-le-mul {n₁ = i} {m₁ = H .rho} {n₂ = 1022} {m₂ = 32} (omega (arith, row, o .sized .sizes .m-most)) (o .sized .sizes .rho-most),
-          )
-
       -- the next entry has its spot
-      pub spot-of : Spot H i k c
+      pub spot-of : Spot H s i k c
       unfolding entry
       spot-of =
           record {
@@ -120,14 +87,13 @@ module _ (H : Matrix) (o : Ordered H) where
             few = omega (arith, in-list (o .sized) i k row h, few (o .sized));
             column = column-below o i k row h;
             cursor = cursor-is;
-            low = cursor-low;
           }
 
       in-cursors : entry H i k < length c
       in-cursors = omega (arith, u .long, column-below o i k row h)
 
       -- one entry more
-      pub cursors-step : Cursors H i (k + 1) (set c (entry H i k) (at c (entry H i k) + 1))
+      pub cursors-step : Cursors H s i (k + 1) (set c (entry H i k) (at c (entry H i k) + 1))
       unfolding inRow sumBelow
       cursors-step =
           rw (add-one k)
@@ -140,13 +106,13 @@ module _ (H : Matrix) (o : Ordered H) where
           }
 
       -- the same as the code writes it
-      pub cursors-next : Cursors H i (k + 1) (set c (at (H .list) (i * H .rho + k)) (at c (at (H .list) (i * H .rho + k)) + 1))
+      pub cursors-next : Cursors H s i (k + 1) (set c (at (H .list) (i * H .rho + k)) (at c (at (H .list) (i * H .rho + k)) + 1))
       unfolding entry
       cursors-next = cursors-step
 
     -- passing one entry more moves one cursor, and none past the columns
-    pub passed-step : (k : ℕ) (c₀ c : List ℕ) → k < H .rho → Passed H i k c₀ c
-        → Passed H i (k + 1) c₀ (set c (at (H .list) (i * H .rho + k)) (at c (at (H .list) (i * H .rho + k)) + 1))
+    pub passed-step : (k : ℕ) (c₀ c : List ℕ) → k < H .rho → Passed H s i k c₀ c
+        → Passed H s i (k + 1) c₀ (set c (at (H .list) (i * H .rho + k)) (at c (at (H .list) (i * H .rho + k)) + 1))
     unfolding entry
     passed-step k c₀ c h p =
         record {
@@ -156,30 +122,28 @@ module _ (H : Matrix) (o : Ordered H) where
         }
 
     -- a row with all of its entries passed is done
-    pub cursors-row : (c : List ℕ) → Cursors H i (H .rho) c → Cursors H (i + 1) 0 c
+    pub cursors-row : (c : List ℕ) → Cursors H s i (H .rho) c → Cursors H s (i + 1) 0 c
     unfolding before inRow has sumBelow
     cursors-row c u = rw (add-one i) record { long = u .long; each = λ j l. omega (arith, u .each j l) }
 
-    pub passed-row : (c₀ c : List ℕ) → Passed H i (H .rho) c₀ c → Passed H (i + 1) 0 c₀ c
+    pub passed-row : (c₀ c : List ℕ) → Passed H s i (H .rho) c₀ c → Passed H s (i + 1) 0 c₀ c
     passed-row c₀ c p = record { cursors = cursors-row c (p .cursors); beyond = p .beyond }
 
-module _ (H : Matrix) (a : Accepted H) where
-  -- where every column has gamma ones, column j starts at j * gamma
-  pub start-equal : (j : ℕ) → j ≤ H .n → columnStart H j ≡ startBy (H .gamma) j
-  unfolding columnStart startBy
-  start-equal j l = sum-cong j (λ x h. weight-equal H a (a .sizes .product) x (omega arith)) ∙ sum-const j (H .gamma)
+-- counted from the index's starting places, the spot is that of the index
+pub place-by : (H : Matrix) (s : ℕ → ℕ) (i k : ℕ) → s (entry H i k) ≡ columnStart H (entry H i k) → placeBy H s i k ≡ rowPlace H i k
+unfolding placeBy rowPlace
+place-by H s i k e = omega (arith, e)
 
-  module _ (i k : ℕ) (row : i < H .m) (h : k < H .rho) where
-    -- the spot is that of the index
-    pub place-equal : placeBy H i k ≡ rowPlace H i k
-    unfolding placeBy rowPlace
-    place-equal = omega (arith, start-equal (entry H i k) (omega (arith, a .rows .below i k row h)))
+module _ (H : Matrix) (a : Accepted H) (i k : ℕ) (row : i < H .m) (h : k < H .rho) (c : List ℕ) (s : Spot H (columnStart H) i k c) where
+  -- so the cursor tells the row's place in the index
+  pub spot-place : suc (H .n) + at c (at (H .list) (i * H .rho + k)) ≡ rowPlace H i k
+  spot-place = s .cursor ∙ place-by H (columnStart H) i k refl
 
-    module _ (c : List ℕ) (s : Spot H i k c) where
-      -- so the cursor tells the row's place in the index
-      pub spot-place : suc (H .n) + at c (at (H .list) (i * H .rho + k)) ≡ rowPlace H i k
-      spot-place = s .cursor ∙ place-equal
+  -- which lies in it
+  pub spot-inside : suc (H .n) + at c (at (H .list) (i * H .rho + k)) < indexSize H
+  spot-inside = omega (arith, spot-place, place-inside H (a .rows) i k row h)
 
-      -- which lies in it
-      pub spot-inside : suc (H .n) + at c (at (H .list) (i * H .rho + k)) < indexSize H
-      spot-inside = omega (arith, spot-place, place-inside H (a .rows) i k row h)
+  -- so no cursor outgrows its cell
+  pub spot-low : at c (at (H .list) (i * H .rho + k)) < 32736
+  unfolding indexSize
+  spot-low = omega (arith, spot-inside, few-entries H (a .sizes))

@@ -34,10 +34,9 @@ use Rattle.counting.proofs.Writes.{length-listed, getD-listed, length-over, get
 use Rattle.matrix.specs.Paper.Code.{Matrix}
 use Rattle.matrix.specs.Paper.PlainCheck.{Accepted}
 use Rattle.matrix.proofs.Rows.{few-entries}
-use Rattle.matrix_index.specs.Paper.Index.{indexOf, indexSize}
-use Rattle.matrix_index.specs.Filling.{startBy, rowPlace, rowPut, rowsPut}
+use Rattle.matrix_index.specs.Paper.Index.{columnStart, indexOf, indexSize}
+use Rattle.matrix_index.specs.Filling.{rowPlace, rowPut, rowsPut}
 use Rattle.matrix_index.proofs.Parts.{index-long, index-start, index-row, place-past, place-inside, place-own, index-covers}
-use Rattle.matrix_index.proofs.Cursors.{start-equal}
 
 -- the index's size as the code adds it up
 pub size-is : (H : Matrix) → H .n + 1 + H .m * H .rho ≡ indexSize H
@@ -77,7 +76,7 @@ puts-long H (suc i) x = put-long H i (H .rho) (rowsPut H i x) ∙ puts-long H i 
 
 -- what the starting places leave
 abbrev pub started : Matrix → List ℕ → List ℕ
-started H x = over (listed (suc (H .n)) (startBy (H .gamma))) x
+started H x = over (listed (suc (H .n)) (columnStart H)) x
 
 -- no row is written yet
 pub puts-none : (H : Matrix) (x : List ℕ) → x ≡ rowsPut H 0 x
@@ -171,14 +170,13 @@ module _ (H : Matrix) (a : Accepted H) where
     -- the starting places leave the memory as long as it was
     pub begun-long : length begun ≡ length x
     unfolding indexSize
-    begun-long = length-over (listed (suc (H .n)) (startBy (H .gamma))) x (omega (arith, length-listed (suc (H .n)) (startBy (H .gamma))))
+    begun-long = length-over (listed (suc (H .n)) (columnStart H)) x (omega (arith, length-listed (suc (H .n)) (columnStart H)))
 
     -- a starting place, as written and as it is to be
     start-there : (c : ℕ) → c < suc (H .n) → at begun c ≡ at (indexOf H) c
     start-there c l =
-        getD-over-new (listed (suc (H .n)) (startBy (H .gamma))) x c 0 (omega (arith, length-listed (suc (H .n)) (startBy (H .gamma))))
-        ∙ getD-listed (suc (H .n)) (startBy (H .gamma)) c 0 l
-        ∙ sym (start-equal H a c (omega arith))
+        getD-over-new (listed (suc (H .n)) (columnStart H)) x c 0 (omega (arith, length-listed (suc (H .n)) (columnStart H)))
+        ∙ getD-listed (suc (H .n)) (columnStart H) c 0 l
         ∙ sym (index-start H (a .rows) c l)
 
     -- each cell
@@ -201,8 +199,8 @@ module _ (H : Matrix) (a : Accepted H) where
                     (omega (arith, index-long H (a .rows), place-inside H (a .rows) (p .0) (p .1) (p .2) (p .3)))))
                 | no f ↦
                     puts-other (H .m) c begun (omega arith) (λ r q h l e. omega (arith, place-inside H (a .rows) r q h l))
-                    ∙ getD-over-old (listed (suc (H .n)) (startBy (H .gamma))) x c 0
-                    (omega (arith, length-listed (suc (H .n)) (startBy (H .gamma))))
+                    ∙ getD-over-old (listed (suc (H .n)) (columnStart H)) x c 0
+                    (omega (arith, length-listed (suc (H .n)) (columnStart H)))
                     ∙ sym (getD-over-old (indexOf H) x c 0 (omega (arith, index-long H (a .rows))))
               ]
         ]
@@ -214,15 +212,14 @@ module _ (H : Matrix) (a : Accepted H) where
         (puts-long H (H .m) begun ∙ begun-long ∙ sym (length-over (indexOf H) x (omega (arith, index-long H (a .rows)))))
         (λ c h. cell-right c)
 
-    -- the same for the starting places as they are counted
-    pub rows-done : (y z : List ℕ) → y ≡ over (listed (H .n + 1) (startBy (H .gamma))) x → z ≡ rowsPut H (H .m) y → z ≡ over (indexOf H) x
-    rows-done y z e q =
-        q ∙ ap (rowsPut H (H .m)) (e ∙ ap (λ (k : ℕ). over (listed k (startBy (H .gamma))) x) (add-one (H .n))) ∙ rows-all
+    module _ (y : List ℕ) (e : y ≡ over (listed (H .n + 1) (columnStart H)) x) where
+      begun-is : y ≡ begun
+      begun-is = e ∙ ap (λ (k : ℕ). over (listed k (columnStart H)) x) (add-one (H .n))
 
-    -- what is written stays as long as the memory was
-    pub puts-room : (i : ℕ) (y z : List ℕ) → y ≡ over (listed (H .n + 1) (startBy (H .gamma))) x → z ≡ rowsPut H i y → length z ≡ length x
-    puts-room i y z e q =
-        ap length q
-        ∙ puts-long H i y
-        ∙ ap length (e ∙ ap (λ (k : ℕ). over (listed k (startBy (H .gamma))) x) (add-one (H .n)))
-        ∙ begun-long
+      -- all rows over the starting places as they are counted
+      pub rows-done : (z : List ℕ) → z ≡ rowsPut H (H .m) y → z ≡ over (indexOf H) x
+      rows-done z q = q ∙ ap (rowsPut H (H .m)) begun-is ∙ rows-all
+
+      -- what is written stays as long as the memory was
+      pub puts-room : (i : ℕ) (z : List ℕ) → z ≡ rowsPut H i y → length z ≡ length x
+      puts-room i z q = ap length q ∙ puts-long H i y ∙ ap length begun-is ∙ begun-long

@@ -26,7 +26,7 @@ use Rattle.counting.proofs.Joined.{same-list, list-same}
 use Rattle.answers.specs.Paper.Answers.{Verdict, accepted, refused, refuseIf, andThen}
 use Rattle.answers.proofs.Verdicts.{not-accepted, passed-on}
 use Rattle.matrix.specs.Paper.Code.{Matrix}
-use Rattle.matrix.specs.Paper.Check.{sizesFit, badEntry, badWeight, overlapping, listOf, checkOf}
+use Rattle.matrix.specs.Paper.Check.{sizesFit, badEntry, badWeight, noLeast, overlapping, listOf, checkOf}
 use Rattle.matrix_index.specs.Paper.Index.{indexOf, ownVerdict}
 use Rattle.matrix_index_check.specs.Paper.Call.{indexedVerdict}
 use Rattle.matrix_index_check.specs.Paper.Claims.{OwnAlike, MatrixFirst, TenElse, TenOnly}
@@ -51,7 +51,8 @@ check-below H =
     (step-number (not (eqb (length (H .list)) _)) 2 0 5 _ (omega arith)
     (step-number (ltb (first (badEntry H) (length (H .list))) (length (H .list))) 3 _ 5 _ (omega arith)
     (step-number (ltb (first (badWeight H) (H .n)) (H .n)) 4 _ 5 _ (omega arith)
-    (step-number (ltb (first (overlapping H) (H .m)) (H .m)) 5 _ 5 accepted (omega arith) (omega arith)))))
+    (step-number (noLeast H) 4 _ 5 _ (omega arith)
+    (step-number (ltb (first (overlapping H) (H .m)) (H .m)) 5 _ 5 accepted (omega arith) (omega arith))))))
 
 -- ---- the index alone
 

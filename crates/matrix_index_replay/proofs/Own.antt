@@ -1,25 +1,42 @@
 -- Of an accepted matrix the index alone passes the replay.
+--   own-starts  == what passes it has the index's starting places, of any ordered matrix
 --   own-index   == what passes it is the index
 --   index-own   == and the index does
 -- Assumes nothing.
-use mathlib.Core.Path.{_≡_, sym, ap, _∙_}
+use mathlib.Core.Path.{_≡_, refl, sym, ap, ap₂, _∙_}
 use mathlib.Core.List.{List}
-use Prim.Native.Nat.{ℕ, suc, _<_}
-use native.Mathlib.Nat.{zero-add}
+use Prim.Native.Nat.{ℕ, zero, suc, _+_, _≤_, _<_}
+use native.Mathlib.Numerals.{add-one}
 use native.Mathlib.Decide.{decLt}
 use native.Mathlib.Omega.{arith}
 use lib.ListN.{length}
 use lib.Seq.{ext-getD}
+use Rattle.counting.specs.Paper.Sum.{sumBelow}
 use Rattle.counting.specs.Places.{at}
-use Rattle.matrix.specs.Paper.Code.{Matrix}
+use Rattle.matrix.specs.Paper.Code.{Matrix, entry, weight}
 use Rattle.matrix.specs.Paper.PlainCheck.{Accepted}
-use Rattle.matrix.proofs.Weights.{weight-equal}
-use Rattle.matrix_index.specs.Paper.Index.{indexOf, indexSize}
-use Rattle.matrix_index.specs.Filling.{startBy, placeBy}
+use Rattle.matrix_index.specs.Paper.Index.{columnStart, indexOf, indexSize}
+use Rattle.matrix_index.specs.Filling.{rowPlace, placeBy}
 use Rattle.matrix_index.proofs.Parts.{index-long, index-start, index-row, index-covers, place-inside}
-use Rattle.matrix_index.proofs.Cursors.{start-equal, place-equal}
+use Rattle.matrix_index.proofs.Cursors.{place-by}
 use Rattle.matrix_index_replay.specs.Replay.{Own}
-use Rattle.matrix_index_replay.proofs.Numbers.{starts-right, right-starts}
+
+-- the first column starts at 0
+starts-first : (H : Matrix) → columnStart H 0 ≡ 0
+unfolding columnStart sumBelow
+starts-first H = refl
+
+-- each next one where the column's ones end
+starts-next : (H : Matrix) (j : ℕ) → columnStart H (j + 1) ≡ columnStart H j + weight H j
+unfolding columnStart sumBelow
+starts-next H j = rw (add-one j) refl
+
+-- what passes the replay has the index's starting places
+pub own-starts : (H : Matrix) (x : List ℕ) → Own H x → (j : ℕ) → j ≤ H .n → at x j ≡ columnStart H j
+unfolding columnStart sumBelow
+own-starts H x o zero l = o .begins
+own-starts H x o (suc j) l =
+    ap (at x) (sym (add-one j)) ∙ o .parts j l ∙ ap (λ (y : ℕ). y + weight H j) (own-starts H x o j (omega arith))
 
 module _ (H : Matrix) (a : Accepted H) (x : List ℕ) where
   -- what passes the replay is the index
@@ -28,23 +45,24 @@ module _ (H : Matrix) (a : Accepted H) (x : List ℕ) where
       ext-getD 0 x (indexOf H) (o .long ∙ sym (index-long H (a .rows))) (λ c h. each c (omega (arith, o .long)))
     where
       -- each starting place
-      start : (j : ℕ) → j < suc (H .n) → at x j ≡ at (indexOf H) j
-      start j l =
-          starts-right 0 (H .gamma) x (suc (H .n)) (o .starts) j l
-          ∙ zero-add (startBy (H .gamma) j)
-          ∙ sym (start-equal H a j (omega arith))
-          ∙ sym (index-start H (a .rows) j l)
+      start : (j : ℕ) → j ≤ H .n → at x j ≡ columnStart H j
+      start = own-starts H x o
+
+      -- the place of each row
+      place : (i k : ℕ) → i < H .m → k < H .rho → placeBy H (at x) i k ≡ rowPlace H i k
+      place i k l h = place-by H (at x) i k (start (entry H i k) (omega (arith, a .rows .below i k l h)))
 
       -- each number
       each : (c : ℕ) → c < indexSize H → at x c ≡ at (indexOf H) c
       each c h =
           elim (decLt c (suc (H .n))) [
-            | yes l ↦ start c l
+            | yes l ↦ start c (omega arith) ∙ sym (index-start H (a .rows) c l)
             | no g ↦
                 let p = index-covers H (a .rows) c (omega arith) h in
-                rw (p .4 ∙ sym (place-equal H a (p .0) (p .1) (p .2) (p .3)))
-                (o .rows (p .0) (p .2) (p .1) (p .3) .is
-                ∙ sym (ap (at (indexOf H)) (place-equal H a (p .0) (p .1) (p .2) (p .3)) ∙ index-row H (a .rows) (p .0) (p .1) (p .2) (p .3)))
+                rw (p .4)
+                (ap (at x) (sym (place (p .0) (p .1) (p .2) (p .3)))
+                ∙ o .rows (p .0) (p .2) (p .1) (p .3) .is
+                ∙ sym (index-row H (a .rows) (p .0) (p .1) (p .2) (p .3)))
           ]
 
   -- and the index does
@@ -52,11 +70,16 @@ module _ (H : Matrix) (a : Accepted H) (x : List ℕ) where
   index-own e =
       record {
         long = ap length e ∙ index-long H (a .rows);
-        starts = right-starts 0 (H .gamma) x (suc (H .n)) (λ j l.
-            ap (λ (y : List ℕ). at y j) e ∙ index-start H (a .rows) j l ∙ start-equal H a j (omega arith) ∙ sym (zero-add (startBy (H .gamma) j)));
+        begins = start 0 (omega arith) ∙ starts-first H;
+        parts = λ j l. start (j + 1) (omega arith) ∙ starts-next H j ∙ ap (λ (y : ℕ). y + weight H j) (sym (start j (omega arith)));
         rows = λ i l k h. record {
-          inside = omega (arith, ap length e, index-long H (a .rows), place-equal H a i k l h, place-inside H (a .rows) i k l h);
-          is = ap (λ (y : List ℕ). at y (placeBy H i k)) e ∙ ap (at (indexOf H)) (place-equal H a i k l h) ∙ index-row H (a .rows) i k l h;
+          inside = omega (arith, ap length e, index-long H (a .rows), place i k l h, place-inside H (a .rows) i k l h);
+          is = ap₂ at e (place i k l h) ∙ index-row H (a .rows) i k l h;
         };
-        full = λ j l. weight-equal H a (a .sizes .product) j l;
       }
+    where
+      start : (j : ℕ) → j ≤ H .n → at x j ≡ columnStart H j
+      start j l = ap (λ (y : List ℕ). at y j) e ∙ index-start H (a .rows) j (omega arith)
+
+      place : (i k : ℕ) → i < H .m → k < H .rho → placeBy H (at x) i k ≡ rowPlace H i k
+      place i k l h = place-by H (at x) i k (start (entry H i k) (omega (arith, a .rows .below i k l h)))

@@ -3,27 +3,105 @@
 --   tally-next     == the column of the next entry counted once more tallies one entry more
 --   tally-room     == a count of so few entries fits a cell with room for one more
 --   tally-weight   == the tally of the whole list has the weights
---   tally-off      == the first column whose tally is off is the first of a wrong weight
+--   out-test       == a weight outside its range as the code asks it
+--   flag-le        == a test as a number is at most 1
+--   offs-none      == no weight that is off is counted yet
+--   offs-more      == one more column is looked at
+--   offs-most      == no more are off than are looked at
+--   off-unfit      == where one is off the weights do not fit
+--   inside-fit     == else they do where one is gamma
+--   counted-off    == of counted weights the first that is off is the first of a wrong weight
+--   counted-least  == and one of them is gamma where a column weighs gamma
+--   counted-fit    == where they pass refusal 4 the matrix does
+--   fit-counted    == and only there
 -- Assumes nothing.
-use mathlib.Core.Path.{_≡_, sym, ap, _∙_}
-use mathlib.Core.Bool.{false, not}
+use mathlib.Core.Path.{_≡_, refl, sym, ap, _∙_}
+use mathlib.Core.Bool.{Bool, true, false, not, _||_}
 use mathlib.Core.List.{List}
 use mathlib.Core.Logic.{inl}
 use Prim.Native.Nat.{ℕ, _+_, _*_, _≤_, _<_}
+use native.Mathlib.Numerals.{add-one}
 use native.Mathlib.Decide.{decLt}
 use native.Mathlib.Omega.{arith}
-use lib.Dec.{eqb}
+use borrow.Author.Tests.{ltb-false, not-true, not-false, lt-ltb, le-ltb, le-leb, lt-leb}
+use lib.Dec.{ltb, eqb}
 use lib.ListN.{length, getD, set}
-use Rattle.counting.specs.Paper.Sum.{sumBelow, same}
-use Rattle.counting.specs.Paper.Search.{first}
-use Rattle.counting.proofs.Searches.{first-cong}
+use Rattle.counting.specs.Paper.Sum.{sumBelow, flag, same}
+use Rattle.counting.specs.Paper.Search.{anyBelow, first}
+use Rattle.counting.proofs.Searches.{never, cases, and-left, and-right, any-cong, first-cong, first-none, first-clear}
+use Rattle.counting.proofs.Sums.{sum-bound, sum-term, sum-pos}
+use Rattle.counting.proofs.Decisions.{missed, test-fails}
 use Rattle.matrix.specs.Paper.Code.{Matrix, weight}
-use Rattle.matrix.specs.Paper.Check.{badEntry, badWeight}
+use Rattle.matrix.specs.Paper.Check.{within, badEntry, badWeight, noLeast}
 use Rattle.matrix.proofs.Rows.{weight-flat}
-use Rattle.matrix.proofs.PlainCheck.{entry-clear}
-use Rattle.matrix.specs.Tallies.{Tally}
+use Rattle.matrix.specs.Ordered.{WeightsFit}
+use Rattle.matrix.proofs.PlainCheck.{entry-clear, weights, none-clear, none-fails}
+use Rattle.matrix.specs.Tallies.{Tally, Weighed}
 use Rattle.matrix.proofs.Tallies.{tally-more, tally-le}
-use Rattle.matrix_weights.specs.Weights.{listAt, offWeight}
+use Rattle.matrix_weights.specs.Weights.{listAt, outWeight, leastWeight, offWeights, weightsFit}
+
+-- a weight outside its range as the code asks it
+pub out-test : (gamma w : ℕ) → (ltb w gamma || ltb 32 w) ≡ not (within gamma w 32)
+out-test gamma w =
+    elim (decLt w gamma) [
+      | yes l ↦ rw (lt-ltb w gamma l, lt-leb gamma w l)
+      | no g ↦
+          elim (decLt 32 w) [
+            | yes l ↦ rw (le-ltb w gamma (omega arith), lt-ltb 32 w l, le-leb gamma w (omega arith), lt-leb w 32 l)
+            | no f ↦ rw (le-ltb w gamma (omega arith), le-ltb 32 w (omega arith), le-leb gamma w (omega arith), le-leb w 32 (omega arith))
+          ]
+    ]
+
+-- a test as a number is at most 1
+pub flag-le : (t : Bool) → flag t ≤ 1
+flag-le true = omega arith
+flag-le false = omega arith
+
+-- where it is not 0 the test passes
+flag-pos : (t : Bool) → 0 < flag t → t ≡ true
+flag-pos true l = refl
+flag-pos false l = absurd (omega arith)
+
+module _ (gamma : ℕ) (v : List ℕ) where
+  -- no weight that is off is counted yet
+  pub offs-none : 0 ≡ offWeights gamma v 0
+  unfolding offWeights sumBelow
+  offs-none = refl
+
+  -- one more column is looked at
+  pub offs-more : (j c d : ℕ) → c ≡ offWeights gamma v j → d ≡ flag (outWeight gamma v j) → c + d ≡ offWeights gamma v (j + 1)
+  unfolding offWeights sumBelow
+  offs-more j c d e q = rw (add-one j) (omega (arith, e, q))
+
+  -- no more are off than are looked at
+  pub offs-most : (n : ℕ) → offWeights gamma v n ≤ n
+  unfolding offWeights
+  offs-most n = omega (arith, sum-bound n 1 {f = λ j. flag (outWeight gamma v j)} (λ j h. flag-le (outWeight gamma v j)))
+
+  module _ (n : ℕ) where
+    -- where one is off the weights do not fit
+    pub off-unfit : (offWeights gamma v n ≡ 0 → ⊥) → false ≡ weightsFit gamma v n
+    unfolding offWeights weightsFit
+    off-unfit ne =
+        let p = sum-pos n (λ j. flag (outWeight gamma v j)) (omega arith) in
+        elim (decLt (first (outWeight gamma v) n) n) [
+          | yes l ↦ rw (lt-ltb (first (outWeight gamma v) n) n l)
+          | no g ↦
+              absurd (never
+              (sym (flag-pos (outWeight gamma v (p .0)) (p .2)) ∙ first-clear (outWeight gamma v) n (omega arith) (p .0) (p .1)))
+        ]
+
+    -- else they do where one is gamma
+    pub inside-fit : offWeights gamma v n ≡ 0 → (r : Bool) → r ≡ anyBelow (leastWeight gamma v) n → r ≡ weightsFit gamma v n
+    unfolding offWeights weightsFit
+    inside-fit e r q =
+        rw (first-none (outWeight gamma v) n all, le-ltb n n (omega arith)) q
+      where
+        all : (j : ℕ) → j < n → outWeight gamma v j ≡ false
+        all j l =
+            cases (outWeight gamma v j)
+            (λ y. absurd (omega (arith, e, sum-term n (λ q. flag (outWeight gamma v q)) j l, ap flag y)))
+            (λ o. o)
 
 module _ (H : Matrix) where
   -- an entry that is not bad is a column
@@ -43,10 +121,36 @@ module _ (H : Matrix) where
   pub tally-weight : (v : List ℕ) → length (H .list) ≡ H .m * H .rho → Tally (listAt H) (length (H .list)) v → (j : ℕ) → j < 1023 → getD v j 0 ≡ weight H j
   tally-weight v whole t j l = t .each j l ∙ ap (λ (k : ℕ). sumBelow k (λ p. same (listAt H p) j)) whole ∙ sym (weight-flat H j)
 
-  -- the first column whose tally is off is the first of a wrong weight
-  pub tally-off : (v : List ℕ) → H .n ≤ 1023 → length (H .list) ≡ H .m * H .rho → Tally (listAt H) (length (H .list)) v
-      → first (offWeight (H .gamma) v) (H .n) ≡ first (badWeight H) (H .n)
-  unfolding offWeight badWeight
-  tally-off v most whole t =
-      first-cong (offWeight (H .gamma) v) (badWeight H) (H .n)
-      (λ j l. ap (λ (x : ℕ). not (eqb x (H .gamma))) (tally-weight v whole t j (omega arith)))
+  module _ (v : List ℕ) (counted : Weighed H v) where
+    -- of counted weights the first that is off is the first of a wrong weight
+    pub counted-off : first (outWeight (H .gamma) v) (H .n) ≡ first (badWeight H) (H .n)
+    unfolding outWeight badWeight
+    counted-off =
+        first-cong (outWeight (H .gamma) v) (badWeight H) (H .n) (λ j l. ap (λ (x : ℕ). not (within (H .gamma) x 32)) (counted j l))
+
+    -- and one of them is gamma where a column weighs gamma
+    pub counted-least : not (anyBelow (leastWeight (H .gamma) v) (H .n)) ≡ noLeast H
+    unfolding leastWeight noLeast
+    counted-least =
+        ap not
+        (any-cong (leastWeight (H .gamma) v) (λ j. eqb (weight H j) (H .gamma)) (H .n) (λ j l. ap (λ (x : ℕ). eqb x (H .gamma)) (counted j l)))
+
+    -- where they pass refusal 4 the matrix does
+    pub counted-fit : weightsFit (H .gamma) v (H .n) ≡ true → WeightsFit H
+    unfolding weightsFit
+    counted-fit e =
+        let off = not-true _ (and-left (not (ltb (first (outWeight (H .gamma) v) (H .n)) (H .n))) _ e) in
+        let some = and-right (not (ltb (first (outWeight (H .gamma) v) (H .n)) (H .n))) _ e in
+        record {
+          inside = missed (weights H) (H .n) _ counted-off (ltb-false _ (H .n) off);
+          least = none-clear H (sym counted-least ∙ ap not some);
+        }
+
+    -- and only there
+    pub fit-counted : weightsFit (H .gamma) v (H .n) ≡ false → WeightsFit H → ⊥
+    unfolding weightsFit
+    fit-counted e w =
+        let all = counted-off ∙ first-none (badWeight H) (H .n) (λ j l. test-fails (weights H) j (w .inside j l)) in
+        let some : anyBelow (leastWeight (H .gamma) v) (H .n) ≡ true = not-false _ (counted-least ∙ none-fails H (w .least)) in
+        let fits : weightsFit (H .gamma) v (H .n) ≡ true = rw (all, le-ltb (H .n) (H .n) (omega arith)) some in
+        never (sym fits ∙ e)

@@ -1,15 +1,16 @@
 // Refusals 3 and 4: one pass over the list for the first bad entry, which counts the columns' weights, and the first weight that is off.
-// Rests on `matrix`. Document 01: "Refused for the input" 3 and 4.
+// Rests on `matrix`. Document 01: "Refused for the input" 3 and 4. Document 02: card 2.
 use matrix::Shape;
+ghost use mathlib.Core.Bool.{not};
 ghost use mathlib.Core.Path.{_≡_};
 ghost use Prim.Native.Nat.{_+_, _%_, _<_, _≤_};
 ghost use lib.ListN.{length, getD, set};
-ghost use Rattle.counting.specs.Paper.Search.{first};
-ghost use Rattle.matrix.specs.Paper.Check.{badEntry};
+ghost use Rattle.counting.specs.Paper.Search.{anyBelow, first};
+ghost use Rattle.matrix.specs.Paper.Check.{within, badEntry};
 ghost use Rattle.matrix.specs.Ordered.{Sized};
 ghost use Rattle.matrix.specs.Paper.Shapes.{matrixOf};
 ghost use Rattle.matrix.specs.Tallies.{Tally};
-ghost use Rattle.matrix_weights.specs.Weights.{listAt, Walked, offWeight};
+ghost use Rattle.matrix_weights.specs.Weights.{listAt, Walked, outWeight, leastWeight, offWeights, weightsFit};
 
 // The place in its row of the entry after one at place k.
 fn next_place(k: usize, rho: usize) -> usize
@@ -63,19 +64,70 @@ pub fn walk(shape: Shape, list: &[u16], weights: &mut [u16; 1023]) -> usize
     p
 }
 
-// The first column whose weight is not gamma, else n. Only this repository's crates call it, after asking refusal 1.
+// Whether a weight lies outside gamma to 32.
+fn outside(gamma: u16, w: u16) -> bool
+    ensures { λ r. ⌜ r ≡ not (within gamma w 32) ⌝ }
+{
+    (w < gamma) | (32 < w)
+}
+
+// The first column whose weight lies outside gamma to 32, else n. Only this repository's crates call it, after asking refusal 1.
 pub fn first_off_weight(shape: Shape, weights: &[u16; 1023]) -> usize
     requires { ⌜ shape .n ≤ 1023 ⌝ }
-    ensures { λ r. ⌜ r ≡ first (offWeight (shape .gamma) (now (weights .entry))) (shape .n) ⌝ }
+    ensures { λ r. ⌜ r ≡ first (outWeight (shape .gamma) (now (weights .entry))) (shape .n) ⌝ }
 {
     let n = shape.n as usize;
     let gamma = shape.gamma;
     let mut j = 0;
     while j < n {
-        if weights[j] != gamma {
+        if outside(gamma, weights[j]) {
             return j;
         }
         j += 1;
     }
     j
+}
+
+// Whether some column weighs gamma.
+fn has_least(shape: Shape, weights: &[u16; 1023]) -> bool
+    requires { ⌜ shape .n ≤ 1023 ⌝ }
+    ensures { λ r. ⌜ r ≡ anyBelow (leastWeight (shape .gamma) (now (weights .entry))) (shape .n) ⌝ }
+{
+    let n = shape.n as usize;
+    let least = shape.gamma;
+    let mut c = 0;
+    while c < n {
+        if weights[c] == least {
+            return true;
+        }
+        c += 1;
+    }
+    false
+}
+
+// How many columns' weights lie outside gamma to 32, counted without a branch at any of them.
+fn off_weights(shape: Shape, weights: &[u16; 1023]) -> u16
+    requires { ⌜ shape .n ≤ 1023 ⌝ }
+    ensures { λ r. ⌜ r ≡ offWeights (shape .gamma) (now (weights .entry)) (shape .n) ⌝ }
+{
+    let n = shape.n as usize;
+    let low = shape.gamma;
+    let mut off: u16 = 0;
+    let mut q = 0;
+    while q < n {
+        off += outside(low, weights[q]) as u16;
+        q += 1;
+    }
+    off
+}
+
+// Whether refusal 4 passes these weights. Only this repository's crates call it, after asking refusal 1.
+pub fn weights_fit(shape: Shape, weights: &[u16; 1023]) -> bool
+    requires { ⌜ shape .n ≤ 1023 ⌝ }
+    ensures { λ r. ⌜ r ≡ weightsFit (shape .gamma) (now (weights .entry)) (shape .n) ⌝ }
+{
+    if off_weights(shape, weights) != 0 {
+        return false;
+    }
+    has_least(shape, weights)
 }

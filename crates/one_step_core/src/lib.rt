@@ -1,16 +1,35 @@
 // One-step voting on a matrix and a received word that are known to be accepted.
-// Rests on `majority_votes`, `majority_flips`, `syndrome`, `packed_word` and `matrix_check`. Document 01: "One-step voting".
+// Rests on `majority_votes`, `majority_flips`, `matrix_degrees`, `syndrome`, `packed_word` and `matrix_check`.
+// Document 01: "One-step voting"; document 02: card 2.
 use answers::Report;
 use majority_votes::Stop;
 use matrix_check::Shape;
 ghost use Rattle.answers.specs.Paper.Enums.{reportOf};
 ghost use Rattle.counting.specs.Places.{at};
-ghost use Rattle.matrix.specs.Paper.Code.{Word};
+ghost use Rattle.matrix.specs.Paper.Code.{Word, weight};
 ghost use Rattle.matrix.specs.Paper.PlainCheck.{Accepted};
 ghost use Rattle.matrix.specs.Paper.Shapes.{matrixOf};
+ghost use Rattle.majority_flips.specs.Flips.{VotedBits};
 ghost use Rattle.one_step_core.specs.Stepped.{Stepped, VoteLent, HandBackLent, HandedBack, Voted};
 
-// One vote on an unpacked word: nothing moves where no check fails.
+// Every bit after the vote, each held against its own column's weight. Where the sizes leave no room for unlike columns all weigh gamma,
+// and no array of weights is cleared and filled: at the smallest codes that alone would be felt.
+fn flip_own(shape: Shape, list: &[u16], votes: &[u8; 1023], bits: &mut [u8; 1023])
+    requires { ⌜ Accepted (matrixOf shape (now list)) × Word (matrixOf shape (now list)) (at (now bits)) ⌝ }
+    ensures { λ _. ⌜ VotedBits (shape .n) (weight (matrixOf shape (now (list .entry)))) (now (votes .entry)) (now (bits .entry)) (now (bits .exit)) ⌝ }
+{
+    let n = shape.n as usize;
+    let gamma = shape.gamma as usize;
+    if list.len() == n * gamma {
+        majority_flips::flip_equal(shape, votes, bits);
+        return;
+    }
+    let mut weights = [0u16; 1023];
+    matrix_degrees::weigh(shape, list, &mut weights);
+    majority_flips::flip_all(shape, votes, &weights, bits);
+}
+
+// One vote on an unpacked word: nothing moves, and no column is weighed, where no check fails.
 fn vote(shape: Shape, list: &[u16], bits: &mut [u8; 1023]) -> Stop
     requires { ⌜ Accepted (matrixOf shape (now list)) × Word (matrixOf shape (now list)) (at (now bits)) ⌝ }
     ensures { λ r. ⌜ Stepped (matrixOf shape (now (list .entry))) (now (bits .entry)) (now (bits .exit)) (r .rounds) (r .failing) ⌝ }
@@ -23,7 +42,7 @@ fn vote(shape: Shape, list: &[u16], bits: &mut [u8; 1023]) -> Stop
             failing: 0,
         };
     }
-    majority_flips::flip_all(shape, &votes, bits);
+    flip_own(shape, list, &votes, bits);
     let after = syndrome::failing_count(shape, list, bits);
     Stop {
         rounds: 1,

@@ -1,6 +1,6 @@
 // One-step voting that takes matrix and index: the index is trusted only after it is found to be the matrix's own, and the votes are found by it.
-// Rests on `one_step_core`, `majority_columns`, `syndrome_update`, `matrix_index_check` and `matrix_check`.
-// Document 02: card 1; refusals 1 to 5, 10, 7 and 9.
+// Rests on `one_step_core`, `majority_columns`, `majority_flips`, `syndrome_update`, `matrix_index_check`, `matrix_degrees` and `matrix_check`.
+// Document 02: cards 1 and 2; refusals 1 to 5, 10, 7 and 9.
 use answers::Answer;
 use answers::Checked;
 use answers::Report;
@@ -9,15 +9,39 @@ use matrix_check::Shape;
 ghost use mathlib.Core.Path.{_≡_};
 ghost use Rattle.answers.specs.Paper.Enums.{reportOf, saidOf};
 ghost use Rattle.counting.specs.Places.{at};
-ghost use Rattle.matrix.specs.Paper.Code.{Word};
+ghost use Rattle.matrix.specs.Paper.Code.{Word, weight};
 ghost use Rattle.matrix.specs.Paper.PlainCheck.{Accepted};
 ghost use Rattle.matrix.specs.Paper.Shapes.{matrixOf};
 ghost use Rattle.matrix_index.specs.Paper.Index.{indexOf};
+ghost use Rattle.majority_flips.specs.Flips.{VotedBits};
 ghost use Rattle.one_step_core.specs.Stepped.{Stepped, VoteLent, Voted};
 ghost use Rattle.one_step_core.specs.Paper.Call.{OneStepAnswered};
 ghost use Rattle.one_step_indexed.specs.Paper.Call.{OneStepIndexedAnswered};
 
-// One vote on an unpacked word: each bit's failing checks are counted among the rows of its column,
+// Every bit after the vote, each held against its own column's weight, the distance to the next starting place of the index.
+// Where the sizes leave no room for unlike columns all weigh gamma, and no array of weights is cleared and filled.
+fn flip_by_index(
+    shape: Shape,
+    list: &[u16],
+    index: &[u16],
+    votes: &[u8; 1023],
+    bits: &mut [u8; 1023],
+)
+    requires { ⌜ Accepted (matrixOf shape (now list)) × (now index ≡ indexOf (matrixOf shape (now list))) × Word (matrixOf shape (now list)) (at (now bits)) ⌝ }
+    ensures { λ _. ⌜ VotedBits (shape .n) (weight (matrixOf shape (now (list .entry)))) (now (votes .entry)) (now (bits .entry)) (now (bits .exit)) ⌝ }
+{
+    let n = shape.n as usize;
+    let gamma = shape.gamma as usize;
+    if list.len() == n * gamma {
+        majority_flips::flip_equal(shape, votes, bits);
+        return;
+    }
+    let mut weights = [0u16; 1023];
+    matrix_degrees::weigh_starts(index, n, &mut weights);
+    majority_flips::flip_all(shape, votes, &weights, bits);
+}
+
+// One vote on an unpacked word: each bit's failing checks are counted among the rows of its column and held against their number,
 // and only the checks of flipped bits are looked at again.
 fn vote(shape: Shape, list: &[u16], index: &[u16], bits: &mut [u8; 1023]) -> Stop
     requires { ⌜ Accepted (matrixOf shape (now list)) × (now index ≡ indexOf (matrixOf shape (now list))) × Word (matrixOf shape (now list)) (at (now bits)) ⌝ }
@@ -39,7 +63,7 @@ fn vote(shape: Shape, list: &[u16], index: &[u16], bits: &mut [u8; 1023]) -> Sto
     }
     majority_columns::tally_columns(index, n, &parity, &mut votes);
     let received = *bits;
-    majority_flips::flip_all(shape, &votes, bits);
+    flip_by_index(shape, list, index, &votes, bits);
     let flipped = syndrome_update::list_flips(n, &received, bits, &mut places);
     syndrome_update::turn_listed(index, n, &places, flipped, &mut parity);
     let after = syndrome_update::count_odd(m, &parity);

@@ -19,7 +19,7 @@ use Rattle.counting.specs.Paper.Lists.{listed, over}
 use Rattle.counting.specs.Paper.Integers.{sumℤ}
 use Rattle.packed_word.specs.Paper.Packed.{bitAt, packedByte, pack, distance}
 use Rattle.matrix.specs.Paper.Code.{entry, has, weight, common, fails, failing}
-use Rattle.matrix.specs.Paper.Check.{sizesFit, badEntry, badWeight, overlapping, listOf, checkOf}
+use Rattle.matrix.specs.Paper.Check.{sizesFit, badEntry, badWeight, noLeast, overlapping, listOf, checkOf}
 use Rattle.quantiser_levels.specs.Paper.Samples.{stepFits, settingFits, nearestWhole, magnitude, levelOf, hardOf, hardBit, notFinite}
 use Rattle.iterative_rounds.specs.Paper.Rounds.{others, extrinsic, levelAfter, roundOf, endOf}
 use Rattle.iterative_core.specs.Paper.Iterative.{startOf, changedIn, changedBits, endFrom, reportAt, iterativeWord}
@@ -94,7 +94,7 @@ eachWanted (r ∷ rs) = (heading ++ ascii (r .text)) ∷ eachWanted rs
 pub every-run : eachMade table ≡ eachWanted table
 unfolding table eachMade eachWanted inputA blockP6 blockInfinite blockP8 low16 low32 printed sizedText restText blocksText chunkText blockLines
     blockAt blockLine blockSaid blockVerdict settingVerdict openingVerdict number16 number32 float matrixIn entryIn entriesIn settingIn sampleIn
-    samplesIn digit digitsWithin decimal hex line heading shortText refusedText saidText blockText checkOf listOf sizesFit badEntry badWeight
+    samplesIn digit digitsWithin decimal hex line heading shortText refusedText saidText blockText checkOf listOf sizesFit badEntry badWeight noLeast
     overlapping failing fails common weight has entry distance pack packedByte bitAt listed over anyBelow first sumBelow same unequal sumℤ stepFits
     settingFits nearestWhole magnitude levelOf hardOf hardBit notFinite others extrinsic levelAfter roundOf endOf startOf changedBits changedIn
     endFrom reportAt iterativeWord ofBits ofFields odd lt le eq

@@ -14,7 +14,7 @@ use Rattle.counting.proofs.Writes.{listed-cong}
 use Rattle.packed_word.specs.Paper.Packed.{pack}
 use Rattle.packed_word.specs.Steps.{Unpacked}
 use Rattle.packed_word.proofs.Packed.{bit-bit, pack-cong}
-use Rattle.matrix.specs.Paper.Code.{Matrix, Word, failing}
+use Rattle.matrix.specs.Paper.Code.{Matrix, Word, weight, failing}
 use Rattle.matrix.proofs.Rows.{failing-cong}
 use Rattle.majority_votes.specs.Tallies.{Tallied}
 use Rattle.iterative_levels.specs.Levels.{unbiased, Moved, Biased, Restorable}
@@ -41,10 +41,10 @@ module _ (H : Matrix) (L : ℕ) (word : List ℕ) (levels : List ℤ) (p : Round
         within = p .within;
       }
 
-  module _ (bits′ kept′ : List ℕ) (m : Moved votes (H .n) (H .gamma) L (2 * L) bits kept bits′ kept′) where
+  module _ (bits′ kept′ : List ℕ) (m : Moved votes (weight H) (H .n) L (2 * L) bits kept bits′ kept′) where
     -- and then the state after a round
     holds-next : Holds (H .n) L bits′ kept′ (roundOf H L (stateIn word levels))
-    holds-next = round-holds H (p .matrix) L (stateIn word levels) votes bits kept bits′ kept′ holds-lent (t .each) m
+    holds-next = round-holds H (p .matrix .rows) L (stateIn word levels) votes bits kept bits′ kept′ holds-lent (t .each) m
 
     -- the bits after the round are a word
     pub next-word : Word H (at bits′)

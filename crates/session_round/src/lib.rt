@@ -1,5 +1,6 @@
 // One step of a session, by value: the record in and out.
-// Rests on `session`, `session_asking`, `session_record`, `iterative_core`, `iterative_levels`, `packed_word`, `majority_votes` and `syndrome`. Document 01: "Rounds one at a time".
+// Rests on `session`, `session_asking`, `session_record`, `iterative_core`, `iterative_levels`, `packed_word`, `majority_votes`, `syndrome` and `matrix_degrees`.
+// Document 01: "Rounds one at a time"; document 02: card 2.
 use answers::Checked;
 use iterative_levels::Kept;
 use matrix_check::Shape;
@@ -8,12 +9,40 @@ use quantiser_levels::largest_of;
 use session_record::Course;
 use session_record::Session;
 use session_record::Turn;
+ghost use mathlib.Core.Path.{_≡_};
+ghost use Prim.Native.Nat.{_*_, _≤_};
+ghost use lib.ListN.{length};
+ghost use Rattle.matrix.specs.Paper.Code.{weight};
+ghost use Rattle.matrix.specs.Paper.PlainCheck.{Accepted};
 ghost use Rattle.matrix.specs.Paper.Shapes.{matrixOf};
+ghost use Rattle.quantiser_levels.specs.Paper.Samples.{mostLevel};
+ghost use Rattle.iterative_levels.specs.Levels.{Moved};
 ghost use Rattle.session_asking.specs.Paper.PlainCalls.{Steppable};
 ghost use Rattle.session_asking.specs.Paper.Asked.{heldOf};
 ghost use Rattle.session.specs.Paper.Steps.{steppedLeft, stepOf};
 ghost use Rattle.session.specs.RoundParts.{RoundLent, RoundLeft};
 ghost use Rattle.session.specs.Paper.Call.{Leaves};
+
+// Brings the bits and the levels to the next round by the votes of the old bits, each bit by its own column's weight.
+fn move_levels(
+    shape: Shape,
+    list: &[u16],
+    votes: &[u8; 1023],
+    middle: Kept,
+    bits: &mut [u8; 1023],
+    kept: &mut [Kept; 1023],
+)
+    requires { ⌜ Accepted (matrixOf shape (now list)) × (middle ≤ mostLevel) × (length (now bits) ≡ 1023) × (length (now kept) ≡ 1023) ⌝ }
+    ensures { λ _. ⌜ Moved (now (votes .entry)) (weight (matrixOf shape (now (list .entry)))) (shape .n) middle (2 * middle) (now (bits .entry)) (now (kept .entry)) (now (bits .exit)) (now (kept .exit)) ⌝ }
+{
+    let n = shape.n as usize;
+    let ceiling = 2 * (middle as u16);
+    let mut wide = [0u16; 1023];
+    let mut weights = [0u8; 1023];
+    matrix_degrees::weigh(shape, list, &mut wide);
+    iterative_levels::narrow(&wide, n, &mut weights);
+    iterative_levels::update(votes, &weights, n, middle, ceiling, bits, kept);
+}
 
 // Steps 4 to 6 on the word and the levels lent, and how many checks of the new word fail.
 fn round_on(shape: Shape, list: &[u16], middle: Kept, word: &mut [u8], levels: &mut [Cell]) -> u16
@@ -21,15 +50,13 @@ fn round_on(shape: Shape, list: &[u16], middle: Kept, word: &mut [u8], levels: &
     ensures { λ r. ⌜ RoundLeft (matrixOf shape (now (list .entry))) middle (now (word .entry)) (now (word .exit)) (now (levels .entry)) (now (levels .exit)) r ⌝ }
 {
     let n = shape.n as usize;
-    let gamma = shape.gamma;
-    let ceiling = 2 * (middle as u16);
     let mut bits = [0u8; 1023];
     let mut kept: [Kept; 1023] = [0; 1023];
     let mut votes = [0u8; 1023];
     packed_word::unpack(word, n, &mut bits);
     iterative_levels::bias(levels, n, middle, &mut kept);
     majority_votes::tally(shape, list, &bits, &mut votes);
-    iterative_levels::update(&votes, n, gamma, middle, ceiling, &mut bits, &mut kept);
+    move_levels(shape, list, &votes, middle, &mut bits, &mut kept);
     packed_word::pack_into(&bits, n, word);
     iterative_levels::unbias(&kept, n, middle, levels);
     syndrome::failing_count(shape, list, &bits)

@@ -14,7 +14,7 @@ use Rattle.counting.specs.Paper.Search.{anyBelow, first}
 use Rattle.answers.specs.Paper.Answers.{accepted}
 use Rattle.packed_word.specs.Paper.Packed.{bitAt, spareSet, Bytes, distance}
 use Rattle.matrix.specs.Paper.Code.{entry, has, weight, common, fails, failing}
-use Rattle.matrix.specs.Paper.Check.{sizesFit, badEntry, badWeight, overlapping, listOf, checkOf}
+use Rattle.matrix.specs.Paper.Check.{sizesFit, badEntry, badWeight, noLeast, overlapping, listOf, checkOf}
 use Rattle.quantiser_levels.specs.Paper.Samples.{stepFits, settingFits, hardOf, hardBit, notFinite}
 use Rattle.majority_logic.specs.Paper.Claims.{IsWord, Sent, flips, WithinHalf}
 use Rattle.iterative_core.specs.Paper.Iterative.{samplesVerdict, iterativeVerdict}
@@ -66,7 +66,7 @@ readme-near = record { sent = sent-00; few = rw one-wrong (omega arith); firm = 
 -- no refusal applies to the call
 readme-accepted : iterativeVerdict codeA (readmeSetting 43) readmeBlock 1 7 ≡ accepted
 unfolding codeA readmeSetting readmeBlock seven iterativeVerdict samplesVerdict settingFits stepFits notFinite ofBits ofFields odd lt le checkOf
-    listOf sizesFit badEntry badWeight overlapping common weight has entry anyBelow first sumBelow same
+    listOf sizesFit badEntry badWeight noLeast overlapping common weight has entry anyBelow first sumBelow same
 readme-accepted = refl
 
 -- with a limit of 43 iterative voting recovers the zero word from the README's block

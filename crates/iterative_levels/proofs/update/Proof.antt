@@ -4,16 +4,17 @@ use Prim.Native.Nat.{_-_, _≤_}
 use native.Mathlib.Nat.{le-antisymm}
 use native.Mathlib.Omega.{arith}
 use borrow.Author.Needs.{needs}
+use Rattle.counting.specs.Places.{at}
 use Rattle.iterative_levels.specs.Levels.{Moved}
 use Rattle.iterative_levels.proofs.Passes.{moved-none, moved-step}
 use Rattle.iterative_levels.proofs.update.Statement.{statement}
 use Rattle.iterative_levels.proofs.update.Tie as tie
 
 abbrev Inv-loop : tie.InvT-loop
-Inv-loop votes n gamma middle ceiling bits₀ levels₀ j₀ bits levels j = (j ≤ n) × Moved votes j gamma middle ceiling bits₀ levels₀ bits levels
+Inv-loop votes weights n middle ceiling bits₀ levels₀ j₀ bits levels j = (j ≤ n) × Moved votes (at weights) j middle ceiling bits₀ levels₀ bits levels
 
 abbrev μ-loop : tie.MeasureT-loop
-μ-loop votes n gamma middle ceiling bits₀ levels₀ j₀ bits levels j = n - j
+μ-loop votes weights n middle ceiling bits₀ levels₀ j₀ bits levels j = n - j
 
 loop-holds : tie.Need-loop-holds Inv-loop μ-loop
 loop-holds c = (omega arith, moved-none _ _ _ _ _ _ (c .pre .1) (c .pre .2))
@@ -27,8 +28,11 @@ element-copy-out-next-level-2 c = omega arith
 element-copy-out-next-level-3 : tie.Need-element-copy-out-next-level-3 Inv-loop μ-loop
 element-copy-out-next-level-3 c = omega arith
 
+element-copy-out-next-level-4 : tie.Need-element-copy-out-next-level-4 Inv-loop μ-loop
+element-copy-out-next-level-4 c = omega arith
+
 next-level-requires : tie.Need-next-level-requires Inv-loop μ-loop
-next-level-requires c κs = let p = c .before .before .before .before .before .pre .0 in (p .weight, p .levels)
+next-level-requires c κs = c .before .before .before .before .before .before .pre .0 .levels
 
 element-write-levels : tie.Need-element-write-levels Inv-loop μ-loop
 element-write-levels c = omega arith
@@ -47,11 +51,11 @@ loop-less c = omega arith
 
 loop-again : tie.Need-loop-again Inv-loop μ-loop
 loop-again c =
-    let l = c .before .before .before .before .before .before in
+    let l = c .before .before .before .before .before .before .before in
     let a = l .before .args in (
       omega arith,
-      moved-step (a .votes .now) (l .loop .j) (a .gamma) (a .middle) (a .ceiling) (a .bits .now) (a .levels .now) (l .loop .bits) (l .loop .levels)
-          (l .loop .inv .1)
+      moved-step (a .votes .now) (at (a .weights .now)) (l .loop .j) (a .middle) (a .ceiling) (a .bits .now) (a .levels .now) (l .loop .bits)
+          (l .loop .levels) (l .loop .inv .1)
           (omega (arith, l .before .pre .0 .columns)) (c .before .next-level .result) (c .is-above .result) (c .before .next-level .ensures)
           (c .is-above .ensures),
     )
@@ -69,6 +73,7 @@ update-spec =
     element-copy-out-next-level
     element-copy-out-next-level-2
     element-copy-out-next-level-3
+    element-copy-out-next-level-4
     next-level-requires
     element-write-levels
     is-above-requires

@@ -1,6 +1,8 @@
--- `iterative_rounds::round` meets its contract: what `update` leaves are bits, so that their votes can be tallied. Assumes nothing.
+-- `iterative_rounds::round` meets its contract: each bit is moved by its column's weight, and what `update` leaves are bits, so that their votes
+-- can be tallied. Assumes nothing.
 use borrow.Author.Needs.{needs}
 use Rattle.matrix.specs.Paper.Shapes.{matrixOf}
+use Rattle.iterative_rounds.proofs.States.{weighed-moved}
 use Rattle.iterative_rounds.proofs.Runs.{moved-word}
 use Rattle.iterative_rounds.proofs.round.Statement.{statement}
 use Rattle.iterative_rounds.proofs.round.Tie as tie
@@ -21,7 +23,13 @@ retally-requires c κs =
     ((z .pre .0 .matrix, z .pre .1 .0), (z .pre .0 .word, moved-word H _ _ _ _ _ _ _ _ (c .before .before .before .before .update .ensures), z .pre .1 .1))
 
 returns : tie.Need-returns
-returns c = search needs
+returns c =
+    let z = c .before .before .before .before .before .before .before .before .before .before .before .before .before in
+    let H = matrixOf (z .args .shape) (z .args .list .now) in
+    record {
+      moved = weighed-moved H _ (z .args .weights .now) _ _ _ _ _ (z .pre .1 .2) (c .before .before .before .before .before .update .ensures);
+      tallied = c .retally .ensures;
+    }
 
 pub round-spec : {M : Type 1} → statement M
 round-spec =

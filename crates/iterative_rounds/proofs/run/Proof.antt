@@ -1,73 +1,66 @@
--- `iterative_rounds::run` meets its contract. The invariant, `Going`: the arrays hold the state after k rounds, the parities, the votes and the count
--- of failing checks are those of its bits, and a check of every earlier state fails. Assumes nothing.
-use mathlib.Core.Path.{_≡_}
-use Prim.Native.Nat.{_-_}
+-- `iterative_rounds::run` meets its contract: the gaps of the index's starting places are the columns' weights. Assumes nothing.
+use mathlib.Core.Path.{refl, ap}
+use mathlib.Core.List.{List}
+use Prim.Native.Nat.{ℕ}
 use native.Mathlib.Omega.{arith}
+use borrow.Author.Needs.{needs}
+use lib.ListN.{length}
+use Rattle.matrix.specs.Paper.Code.{Matrix}
 use Rattle.matrix.specs.Paper.Shapes.{matrixOf}
-use Rattle.syndrome_update.proofs.KeptParities.{zero-word, zero-parities}
-use Rattle.iterative_rounds.proofs.Runs.{Going, going-starts, going-lent, going-ends, going-step}
+use Rattle.matrix.specs.Tallies.{Weighed}
+use Rattle.matrix_index.specs.Paper.Index.{indexSize}
+use Rattle.matrix_index.proofs.Parts.{index-long}
+use Rattle.matrix_index.proofs.Gaps.{starts-rise, gaps-weighed}
+use Rattle.iterative_rounds.proofs.States.{weighed-narrow, narrow-weighed}
 use Rattle.iterative_rounds.proofs.run.Statement.{statement}
 use Rattle.iterative_rounds.proofs.run.Tie as tie
 
-abbrev Inv-loop : tie.InvT-loop
-Inv-loop shape list index limit middle bits₀ levels₀ parity₀ votes₀ failing₀ k₀ bits levels parity votes failing k =
-    Going (matrixOf shape list) middle limit bits₀ levels₀ bits levels parity votes failing k
+abbrev entered : tie.After-weigh-starts → tie.Start
+entered c = c .before .before .before .before .before
 
-abbrev μ-loop : tie.MeasureT-loop
-μ-loop shape list index limit middle bits₀ levels₀ parity₀ votes₀ failing₀ k₀ bits levels parity votes failing k = limit - k
+abbrev lent-matrix : tie.Start → Matrix
+lent-matrix s = matrixOf (s .args .shape) (s .args .list .now)
 
-retally-requires : tie.Need-retally-requires Inv-loop μ-loop
-retally-requires c κs =
-    let z = c .before .before .before .before .before .before in
-    let H = matrixOf (z .args .shape) (z .args .list .now) in
-    ((z .pre .0 .matrix, z .pre .1), (zero-word H, z .pre .0 .word, zero-parities H))
+abbrev wide : tie.After-weigh-starts → List ℕ
+wide c = c .weigh-starts .last .1 .1 .0
 
-loop-holds : tie.Need-loop-holds Inv-loop μ-loop
-loop-holds c =
-    let z = c .before .before .before .before .before .before .before in
-    going-starts _ _ (z .args .limit) _ _ (z .pre .0) _ _ _ _ (c .retally .ensures)
+-- the array has the weight of each column
+own-weights : (c : tie.After-weigh-starts) → Weighed (lent-matrix (entered c)) (wide c)
+own-weights c =
+    let s = entered c in
+    gaps-weighed (lent-matrix s) (s .pre .0 .matrix) _ (s .pre .1) _ _ (c .weigh-starts .ensures)
 
-returns : tie.Need-returns Inv-loop μ-loop
-returns c =
-    let l = c .before .before in
-    let e : l .loop .failing ≡ 0 = omega arith in
-    rw e at (going-ends _ _ _ _ _ (l .before .before .before .before .before .before .before .before .pre .0) _ _ _ _ _ _
-    (l .loop .inv) (λ h. absurd (omega arith)))
+cast-n : tie.Need-cast-n
+cast-n c = search needs
 
-round-requires : tie.Need-round-requires Inv-loop μ-loop
-round-requires c κs =
-    let l = c .before .before .before .before .before .before in
-    let z = l .before .before .before .before .before .before .before .before in
-    (going-lent _ _ _ _ _ (z .pre .0) _ _ _ _ _ _ (l .loop .inv), (z .pre .1, l .loop .inv .parities))
+weigh-starts-requires : tie.Need-weigh-starts-requires
+unfolding indexSize
+weigh-starts-requires c κs =
+    let s = c .before .before .before .before in
+    let a = s .pre .0 .matrix in
+    (a .sizes .n-most, omega (arith, ap length (s .pre .1), index-long (lent-matrix s) (a .rows)), starts-rise (lent-matrix s) a _ (s .pre .1))
 
-add-k : tie.Need-add-k Inv-loop μ-loop
-add-k c = omega (arith, c .before .before .before .before .before .before .before .before .before .before .before .before .before .before .before .fits .limit)
+narrow-requires : tie.Need-narrow-requires
+narrow-requires c κs =
+    let w = c .before .before in
+    (weighed-narrow (lent-matrix (entered w)) (entered w .pre .0 .matrix) (wide w) (own-weights w), refl)
 
-loop-less : tie.Need-loop-less Inv-loop μ-loop
-loop-less c = omega arith
+rounds-on-requires : tie.Need-rounds-on-requires
+rounds-on-requires c κs =
+    let k = c .before .before .before in
+    let w = k .before .before .before in
+    let s = entered w in
+    (s .pre .0, s .pre .1, narrow-weighed (lent-matrix s) (wide w) _ _ (own-weights w) (k .narrow .ensures))
 
-loop-again : tie.Need-loop-again Inv-loop μ-loop
-loop-again c =
-    let l = c .before .before .before .before .before .before .before in
-    going-step _ _ _ _ _ (l .before .before .before .before .before .before .before .before .pre .0) _ _ _ _ _ _
-    (l .loop .inv) (omega arith) (omega arith) _ _ _ _ _ (c .round .ensures)
-
-returns-2 : tie.Need-returns-2 Inv-loop μ-loop
-returns-2 c =
-    let l = c .before in
-    going-ends _ _ _ _ _ (l .before .before .before .before .before .before .before .before .pre .0) _ _ _ _ _ _ (l .loop .inv) (λ h. omega arith)
+returns : tie.Need-returns
+returns c = search needs
 
 pub run-spec : {M : Type 1} → statement M
 run-spec =
     tie.close
     (tie.spec
-    Inv-loop
-    μ-loop
-    retally-requires
-    loop-holds
-    returns
-    round-requires
-    add-k
-    loop-less
-    loop-again
-    returns-2)
+    cast-n
+    weigh-starts-requires
+    narrow-requires
+    rounds-on-requires
+    returns)

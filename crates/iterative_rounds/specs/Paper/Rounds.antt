@@ -1,4 +1,4 @@
--- Rounds of iterative soft voting. (Document 01, "Iterative voting".)
+-- Rounds of iterative soft voting. (Document 01, "Iterative voting"; document 02, card 2.)
 --   others H z i j       == the ones of check i among its bits other than bit j
 --   sign p               == +1 where the parity p is odd, else -1
 --   extrinsic H z j      == E, the sum over bit j's checks
@@ -25,7 +25,7 @@ abbrev pub sign : ℕ → ℤ
 sign zero = negsuc 0
 sign (suc k) = pos 1
 
--- "E is the sum over its γ checks"
+-- "E sums over its own checks" (document 02, card 2)
 unfoldable pub extrinsic : Matrix → (ℕ → ℕ) → ℕ → ℤ
 extrinsic H z j = sumℤ (H .m) (λ i. pos (has H i j) *ℤ sign (others H z i j % 2))
 

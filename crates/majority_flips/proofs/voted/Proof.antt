@@ -13,7 +13,7 @@ cast-result : tie.Need-cast-result
 cast-result c = search needs
 
 returns : tie.Need-returns
-returns c = flip-bit (ltb (c .args .gamma) (2 * c .args .v)) (c .args .b) (c .pre)
+returns c = flip-bit (ltb (c .args .weight) (2 * c .args .v)) (c .args .b) (c .pre)
 
 pub voted-spec : {M : Type 1} → statement M
 voted-spec = tie.close (tie.spec mul-turns cast-result returns)

@@ -1,4 +1,4 @@
--- Votes of the failing checks, and the word after each bit has been voted on. (Document 01, "One-step voting".)
+-- Votes of the failing checks, and the word after each bit has been voted on. (Document 01, "One-step voting"; document 02, card 2.)
 --   votes H z j      == the number of failing checks on bit j
 --   flipWhen t b     == the bit b, turned over where the test t passes
 --   flipped H z j    == bit j after the vote
@@ -18,6 +18,6 @@ abbrev pub flipWhen : Bool → ℕ → ℕ
 flipWhen true b = 1 - b
 flipWhen false b = b
 
--- "each bit for which more than half of its γ checks fail is flipped, all at once from the same received word. A tie keeps the bit"
+-- "A bit is flipped when more than half of its own checks fail" (document 02, card 2), "all at once from the same received word. A tie keeps the bit"
 unfoldable pub flipped : Matrix → (ℕ → ℕ) → ℕ → ℕ
 flipped H z j = flipWhen (ltb (weight H j) (2 * votes H z j)) (z j)

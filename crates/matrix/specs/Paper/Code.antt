@@ -14,7 +14,7 @@ use Prim.Native.Nat.{ℕ, _+_, _*_, _%_, _<_}
 use lib.ListN.{getD}
 use Rattle.counting.specs.Paper.Sum.{sumBelow, same}
 
--- "m × ρ unsigned 16-bit column numbers, row after row", n columns, m rows, row weight rho, column weight gamma
+-- "m × ρ unsigned 16-bit column numbers, row after row", n columns, m rows, row weight rho, smallest column weight gamma
 pub record Matrix : Type 0 where
   pub list : List ℕ
   pub n : ℕ

@@ -27,7 +27,7 @@ returns c =
     let b = c .before .before .before .before in
     let o = b .pre .0 in
     reads-only (lent b) _
-    (rows-overlap (o .sized .sizes) (o .sized .whole) (o .clear) (b .pre .1)
+    (rows-overlap (o .sized .sizes) (o .sized .whole) (o .clear) (b .pre .1 .inside) (b .pre .1 .least)
     (found (overlaps (lent b)) _ (c .before .first-overlap .result) (c .before .first-overlap .ensures) (c .if1 .taken)))
 
 returns-2 : tie.Need-returns-2
@@ -36,7 +36,7 @@ returns-2 c =
     let o = b .pre .0 in
     reads-only (lent b) _
     (fine
-    (accepts (lent b) (o .sized .sizes) (o .sized .whole) (o .clear) (b .pre .1)
+    (accepts (lent b) (o .sized .sizes) (o .sized .whole) (o .clear) (b .pre .1 .inside) (b .pre .1 .least)
     (missed (overlaps (lent b)) _ (c .before .first-overlap .result) (c .before .first-overlap .ensures) (omega (arith, c .if1 .left)))))
 
 pub ask-overlap-spec : {M : Type 1} → statement M

@@ -1,22 +1,24 @@
 -- `matrix_index::place_row`. The loop's invariant: the row is written at the places of its first `k` entries, whose cursors have moved on.
-use Prim.Native.Nat.{_-_, _≤_}
+use Prim.Native.Nat.{_+_, _*_, _-_, _≤_, _<_}
 use mathlib.Core.Path.{_≡_, sym, ap, _∙_}
 use native.Mathlib.Nat.{le-antisymm}
 use native.Mathlib.Omega.{arith}
 use lib.ListN.{length}
+use Rattle.counting.specs.Places.{at}
 use Rattle.matrix.specs.Paper.Code.{Matrix}
 use Rattle.matrix.specs.Paper.Shapes.{matrixOf}
 use Rattle.matrix.specs.Ordered.{Ordered}
 use Rattle.matrix.proofs.Ordered.{accepted-ordered}
+use Rattle.matrix_index.specs.Paper.Index.{columnStart}
 use Rattle.matrix_index.specs.Filling.{Passed, rowPut}
-use Rattle.matrix_index.proofs.Cursors.{Spot, spot-of, spot-place, spot-inside, reached, passed-none, passed-step, passed-row}
+use Rattle.matrix_index.proofs.Cursors.{Spot, spot-of, spot-place, spot-inside, spot-low, reached, passed-none, passed-step, passed-row}
 use Rattle.matrix_index.proofs.Filling.{put-next, put-long, put-none}
 use Rattle.matrix_index.proofs.place_row.Statement.{statement}
 use Rattle.matrix_index.proofs.place_row.Tie as tie
 
 abbrev Inv-loop : tie.InvT-loop
 Inv-loop shape list i cursors₀ index₀ rho k₀ cursors index k =
-    (k ≤ rho) × Passed (matrixOf shape list) i k cursors₀ cursors × (index ≡ rowPut (matrixOf shape list) i k index₀)
+    (k ≤ rho) × Passed (matrixOf shape list) (columnStart (matrixOf shape list)) i k cursors₀ cursors × (index ≡ rowPut (matrixOf shape list) i k index₀)
 
 abbrev μ-loop : tie.MeasureT-loop
 μ-loop shape list i cursors₀ index₀ rho k₀ cursors index k = rho - k
@@ -31,11 +33,22 @@ ordered s = accepted-ordered (lent s) (s .pre .0)
 
 -- where the next entry goes, once there is one
 spot : (c : tie.In-loop Inv-loop μ-loop)
-    → Spot (lent (c .before .before .before)) (c .before .before .before .args .i) (c .before .loop .k) (c .before .loop .cursors)
+    → Spot (lent (c .before .before .before)) (columnStart (lent (c .before .before .before)))
+    (c .before .before .before .args .i) (c .before .loop .k) (c .before .loop .cursors)
 spot c =
     let s = c .before .before .before in
     let l = c .before .loop in
-    spot-of (lent s) (ordered s) (s .args .i) (s .pre .1) (l .k) (omega arith) (l .cursors) (l .inv .1 .cursors)
+    spot-of (lent s) (ordered s) (columnStart (lent s)) (s .args .i) (s .pre .1) (l .k) (omega arith) (l .cursors) (l .inv .1 .cursors)
+
+-- the cursor there is below the index's end
+low : (c : tie.In-loop Inv-loop μ-loop)
+    → at (c .before .loop .cursors)
+    (at (c .before .before .before .args .list .now) (c .before .before .before .args .i * c .before .before .before .args .shape .rho + c .before .loop .k))
+    < 32736
+low c =
+    let s = c .before .before .before in
+    let l = c .before .loop in
+    spot-low (lent s) (s .pre .0) (s .args .i) (l .k) (s .pre .1) (omega arith) (l .cursors) (spot c)
 
 cast-rho : tie.Need-cast-rho Inv-loop μ-loop
 cast-rho c = omega (arith, c .before .pre .0 .sizes .rho-most)
@@ -44,7 +57,7 @@ loop-holds : tie.Need-loop-holds Inv-loop μ-loop
 loop-holds c =
     let s = c .before in (
       omega arith,
-      passed-none (lent s) (ordered s) (s .args .i) (s .args .cursors .now) (s .pre .2),
+      passed-none (lent s) (ordered s) (columnStart (lent s)) (s .args .i) (s .args .cursors .now) (s .pre .2),
       put-none (lent s) (s .args .i) (s .args .index .now),
     )
 
@@ -76,7 +89,7 @@ slice-read-c : tie.Need-slice-read-c Inv-loop μ-loop
 slice-read-c c = omega (arith, spot (c .before .before .before) .column, c .before .before .before .before .loop .inv .1 .cursors .long)
 
 cast-c : tie.Need-cast-c Inv-loop μ-loop
-cast-c c = omega (arith, spot (c .before .before .before) .low)
+cast-c c = omega (arith, low (c .before .before .before))
 
 cast-index : tie.Need-cast-index Inv-loop μ-loop
 cast-index c =
@@ -86,12 +99,12 @@ cast-index c =
 add-index : tie.Need-add-index Inv-loop μ-loop
 add-index c =
     let s = c .before .before .before .before .before .before in
-    omega (arith, spot (c .before .before .before) .low, s .pre .0 .sizes .n-most)
+    omega (arith, low (c .before .before .before), s .pre .0 .sizes .n-most)
 
 mul-index : tie.Need-mul-index Inv-loop μ-loop
 mul-index c =
     let s = c .before .before .before .before .before .before in
-    omega (arith, spot (c .before .before .before) .low, s .pre .0 .sizes .n-most)
+    omega (arith, low (c .before .before .before), s .pre .0 .sizes .n-most)
 
 slice-write-index : tie.Need-slice-write-index Inv-loop μ-loop
 slice-write-index c =
@@ -106,10 +119,10 @@ slice-write-index c =
     )
 
 add-cursors : tie.Need-add-cursors Inv-loop μ-loop
-add-cursors c = omega (arith, spot (c .before .before .before) .low)
+add-cursors c = omega (arith, low (c .before .before .before))
 
 cast-cursors : tie.Need-cast-cursors Inv-loop μ-loop
-cast-cursors c = omega (arith, spot (c .before .before .before) .low)
+cast-cursors c = omega (arith, low (c .before .before .before))
 
 mul-cursors : tie.Need-mul-cursors Inv-loop μ-loop
 mul-cursors c = omega (arith, spot (c .before .before .before) .column)
@@ -128,7 +141,7 @@ loop-again c =
     let s = c .before .before .before .before .before .before in
     let l = c .before .before .before .before .loop in (
       omega arith,
-      passed-step (lent s) (ordered s) (s .args .i) (s .pre .1) (l .k) (s .args .cursors .now) (l .cursors) (omega arith) (l .inv .1),
+      passed-step (lent s) (ordered s) (columnStart (lent s)) (s .args .i) (s .pre .1) (l .k) (s .args .cursors .now) (l .cursors) (omega arith) (l .inv .1),
       put-next (lent s) (s .args .i) (l .k) _ (s .args .index .now) (l .index)
           (reached _ _ (spot-place (lent s) (s .pre .0) (s .args .i) (l .k) (s .pre .1) (omega arith) (l .cursors) (spot (c .before .before .before))))
           (l .inv .2),
@@ -148,7 +161,8 @@ returns c =
     let s = c .before .before .before in
     let l = c .before .loop in
     let e : l .k ≡ s .args .shape .rho = le-antisymm (l .inv .0) (omega arith) in
-    (passed-row (lent s) (ordered s) (s .args .i) (s .pre .1) (s .args .cursors .now) (l .cursors) (rw e at (l .inv .1)), rw e at (l .inv .2))
+    let p = passed-row (lent s) (ordered s) (columnStart (lent s)) (s .args .i) (s .pre .1) (s .args .cursors .now) (l .cursors) (rw e at (l .inv .1)) in
+    (p, rw e at (l .inv .2))
 
 pub place-row-spec : {M : Type 1} → statement M
 place-row-spec =

@@ -1,29 +1,35 @@
--- `matrix_index::put_starts`. The loop's invariant: the first `j` starting places are written over the old cells.
-use Prim.Native.Nat.{_*_, _-_, _≤_}
-use mathlib.Core.Path.{_≡_, sym}
+-- `matrix_index::put_starts`. The loop's invariant: the first `j` starting places are written over the old cells, and `sum` is the next.
+use Prim.Native.Nat.{_-_, _≤_}
+use mathlib.Core.Path.{_≡_, sym, _∙_}
 use native.Mathlib.Nat.{le-antisymm}
 use native.Mathlib.Omega.{arith}
+use lib.ListN.{length, length-set}
 use Rattle.counting.specs.Paper.Lists.{listed, over}
 use Rattle.counting.proofs.Writes.{over-none, over-long, over-step}
-use Rattle.matrix_index.specs.Filling.{startBy}
-use Rattle.matrix_index.proofs.Cursors.{start-is, start-small}
+use Rattle.matrix_index.specs.Filling.{startSum}
+use Rattle.matrix_index.proofs.Starts.{sum-first, sum-more, sum-fits}
 use Rattle.matrix_index.proofs.put_starts.Statement.{statement}
 use Rattle.matrix_index.proofs.put_starts.Tie as tie
 
 abbrev Inv-loop : tie.InvT-loop
-Inv-loop count gamma cells₀ j₀ cells j = (j ≤ count) × (cells ≡ over (listed j (startBy gamma)) cells₀)
+Inv-loop n weights cells₀ sum₀ j₀ cells sum j = (j ≤ n) × (sum ≡ startSum weights j) × (cells ≡ over (listed j (startSum weights)) cells₀)
 
 abbrev μ-loop : tie.MeasureT-loop
-μ-loop count gamma cells₀ j₀ cells j = count - j
+μ-loop n weights cells₀ sum₀ j₀ cells sum j = n - j
+
+-- all starting places but the last are written
+done : (c : tie.After-loop Inv-loop μ-loop) → c .before .loop .j ≡ c .before .before .args .n
+done c = le-antisymm (c .before .loop .inv .0) (omega arith)
+
+-- the cells are as many as they were
+long : (c : tie.After-loop Inv-loop μ-loop) → length (c .before .loop .cells) ≡ length (c .before .before .args .cells .now)
+long c =
+    let s = c .before .before in
+    let o = c .before .loop in
+    over-long (o .j) (startSum (s .args .weights .now)) (s .args .cells .now) (o .cells) (o .inv .2) (omega arith)
 
 loop-holds : tie.Need-loop-holds Inv-loop μ-loop
-loop-holds c = (omega arith, sym (over-none _ _))
-
-mul-place : tie.Need-mul-place Inv-loop μ-loop
-mul-place c = let s = c .before .before in omega (arith, start-small (c .before .loop .j) (s .args .gamma) (omega arith) (s .pre .1))
-
-cast-cells : tie.Need-cast-cells Inv-loop μ-loop
-cast-cells c = let s = c .before .before in omega (arith, start-small (c .before .loop .j) (s .args .gamma) (omega arith) (s .pre .1))
+loop-holds c = (omega arith, sum-first _, sym (over-none _ _))
 
 mul-cells : tie.Need-mul-cells Inv-loop μ-loop
 mul-cells c = omega arith
@@ -32,7 +38,19 @@ slice-write-cells : tie.Need-slice-write-cells Inv-loop μ-loop
 slice-write-cells c =
     let s = c .before .before in
     let o = c .before .loop in
-    omega (arith, over-long (o .j) (startBy (s .args .gamma)) (s .args .cells .now) (o .cells) (o .inv .1) (omega arith))
+    omega (arith, over-long (o .j) (startSum (s .args .weights .now)) (s .args .cells .now) (o .cells) (o .inv .2) (omega arith))
+
+mul-sum : tie.Need-mul-sum Inv-loop μ-loop
+mul-sum c = omega arith
+
+element-copy-out-sum : tie.Need-element-copy-out-sum Inv-loop μ-loop
+element-copy-out-sum c = omega arith
+
+add-sum : tie.Need-add-sum Inv-loop μ-loop
+add-sum c =
+    let s = c .before .before .before in
+    let o = c .before .before .loop in
+    omega (arith, s .pre .2, o .inv .1, sum-fits (s .args .weights .now) (o .j) (s .args .n) (omega arith))
 
 add-j : tie.Need-add-j Inv-loop μ-loop
 add-j c = omega arith
@@ -42,21 +60,31 @@ loop-less c = omega arith
 
 loop-again : tie.Need-loop-again Inv-loop μ-loop
 loop-again c =
-    let s = c .before .before in
-    let o = c .before .loop in (
+    let s = c .before .before .before in
+    let o = c .before .before .loop in (
       omega arith,
-      over-step (o .j) (startBy (s .args .gamma)) (s .args .cells .now) (o .cells) (o .inv .1) (o .j * s .args .gamma) (omega arith)
-          (start-is (s .args .gamma) (o .j)),
+      omega (arith, o .inv .1, sum-more (s .args .weights .now) (o .j)),
+      over-step (o .j) (startSum (s .args .weights .now)) (s .args .cells .now) (o .cells) (o .inv .2) (o .sum) (omega arith) (o .inv .1),
     )
+
+mul-cells-2 : tie.Need-mul-cells-2 Inv-loop μ-loop
+mul-cells-2 c = omega arith
+
+slice-write-cells-2 : tie.Need-slice-write-cells-2 Inv-loop μ-loop
+slice-write-cells-2 c = omega (arith, long c)
 
 same-length : tie.Need-same-length Inv-loop μ-loop
 same-length c =
     let s = c .before .before in
     let o = c .before .loop in
-    over-long (o .j) (startBy (s .args .gamma)) (s .args .cells .now) (o .cells) (o .inv .1) (omega arith)
+    length-set (o .cells) (s .args .n) _ ∙ long c
 
 returns : tie.Need-returns Inv-loop μ-loop
-returns c = rw (le-antisymm (c .before .loop .inv .0) (omega arith)) at (c .before .loop .inv .1)
+returns c =
+    let s = c .before .before in
+    let o = c .before .loop in
+    over-step (s .args .n) (startSum (s .args .weights .now)) (s .args .cells .now) (o .cells) (rw (done c) at (o .inv .2)) (o .sum) (omega arith)
+    (rw (done c) at (o .inv .1))
 
 pub put-starts-spec : {M : Type 1} → statement M
 put-starts-spec =
@@ -65,12 +93,15 @@ put-starts-spec =
     Inv-loop
     μ-loop
     loop-holds
-    mul-place
-    cast-cells
     mul-cells
     slice-write-cells
+    mul-sum
+    element-copy-out-sum
+    add-sum
     add-j
     loop-less
     loop-again
+    mul-cells-2
+    slice-write-cells-2
     same-length
     returns)

@@ -16,7 +16,7 @@ agree-requires c κs = search needs
 ask-overlap-requires : tie.Need-ask-overlap-requires
 ask-overlap-requires c κs =
     let y = c .before .agree .ensures .so (c .if1 .taken) in
-    (y .0, λ j l bad. bad (y .1 .full j l))
+    (y .0, y .2)
 
 returns : tie.Need-returns
 returns c =

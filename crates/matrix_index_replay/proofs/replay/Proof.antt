@@ -1,11 +1,10 @@
--- `matrix_index_replay::replay`: a list of another length, with a wrong starting place or with a wrong row is not the matrix's own.
-use mathlib.Core.Path.{sym, _∙_}
+-- `matrix_index_replay::replay`: a list is not the matrix's own if its length is another, its first number is not 0, or a row or an end of a column is wrong.
+use mathlib.Core.Path.{sym}
 use native.Mathlib.Omega.{arith}
 use Rattle.counting.proofs.Searches.{never}
 use Rattle.matrix.specs.Paper.Code.{Matrix}
 use Rattle.matrix.specs.Paper.Shapes.{matrixOf}
 use Rattle.matrix_index.proofs.Filling.{size-is}
-use Rattle.matrix_index_replay.proofs.Numbers.{starts-front}
 use borrow.Author.Needs.{needs}
 use Rattle.matrix_index_replay.proofs.replay.Statement.{statement}
 use Rattle.matrix_index_replay.proofs.replay.Tie as tie
@@ -16,9 +15,6 @@ lent s = matrixOf (s .args .shape) (s .args .list .now)
 
 cast-n : tie.Need-cast-n
 cast-n c = search needs
-
-cast-gamma : tie.Need-cast-gamma
-cast-gamma c = search needs
 
 add-size : tie.Need-add-size
 add-size c = search needs
@@ -37,41 +33,27 @@ add-size-2 c = search needs
 
 returns : tie.Need-returns
 returns c =
-    let s = c .before .before .before .before .before .before .before in
+    let s = c .before .before .before .before .before .before in
     record { so = λ e. absurd (never (sym e)); not-so = λ e o. omega (arith, o .long, size-is (lent s)) }
 
-add-starts-wrong : tie.Need-add-starts-wrong
-add-starts-wrong c = search needs
-
-starts-wrong-requires : tie.Need-starts-wrong-requires
-starts-wrong-requires c κs =
-    let s = c .before .before .before .before .before .before .before in
-    (omega (arith, s .pre .sized .sizes .n-most), omega arith, s .pre .sized .sizes .gamma-most, omega arith)
+shared-slice-read-if2 : tie.Need-shared-slice-read-if2
+shared-slice-read-if2 c = search needs
 
 returns-2 : tie.Need-returns-2
-returns-2 c =
-    let s = c .before .before .before .before .before .before .before .before .before in
-    record {
-      so = λ e. absurd (never (sym e));
-      not-so = λ e o. omega (arith, c .before .starts-wrong .ensures, starts-front (lent s) (s .args .index .now), o .starts);
-    }
+returns-2 c = record { so = λ e. absurd (never (sym e)); not-so = λ e o. c .if2 .taken (o .begins) }
 
 rows-stand-requires : tie.Need-rows-stand-requires
-rows-stand-requires c κs = search needs
+rows-stand-requires c κs =
+    let s = c .before .before .before .before .before .before .before .before in
+    (s .pre, omega (arith, size-is (lent s)))
 
 returns-3 : tie.Need-returns-3
 returns-3 c =
-    let s = c .before .before .before .before .before .before .before .before .before .before in
-    let w = c .before .before .starts-wrong in
+    let s = c .before .before .before .before .before .before .before .before .before in
     let r = c .rows-stand .ensures in
     record {
-      so = λ e. record {
-        long = omega (arith, size-is (lent s));
-        starts = sym (starts-front (lent s) (s .args .index .now)) ∙ sym (w .ensures) ∙ omega arith;
-        rows = r .so e .0;
-        full = r .so e .1;
-      };
-      not-so = λ e o. r .not-so e (o .rows) (o .full);
+      so = λ e. record { long = omega (arith, size-is (lent s)); begins = c .before .if2 .left; parts = r .so e .1; rows = r .so e .0 };
+      not-so = λ e o. r .not-so e (o .rows) (o .parts);
     }
 
 pub replay-spec : {M : Type 1} → statement M
@@ -79,15 +61,13 @@ replay-spec =
     tie.close
     (tie.spec
     cast-n
-    cast-gamma
     add-size
     cast-size
     cast-size-2
     mul-size
     add-size-2
     returns
-    add-starts-wrong
-    starts-wrong-requires
+    shared-slice-read-if2
     returns-2
     rows-stand-requires
     returns-3)

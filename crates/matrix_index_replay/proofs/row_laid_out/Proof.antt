@@ -1,6 +1,7 @@
 -- `matrix_index_replay::row_laid_out`: a row of five entries stands where a row of any number of them does.
 use mathlib.Core.Path.{subst, sym}
 use Prim.Native.Nat.{ℕ}
+use Rattle.counting.specs.Places.{at}
 use Rattle.matrix.specs.Paper.Code.{Matrix, matrix}
 use Rattle.matrix.specs.Ordered.{Ordered}
 use Rattle.matrix_index.specs.Filling.{Cursors}
@@ -22,7 +23,8 @@ row-stands-requires c κs =
     let e = c .before .if1 .taken in (
       subst (λ rho. Ordered (lent s rho)) e (s .pre .0),
       s .pre .1,
-      subst (λ rho. Cursors (lent s rho) (s .args .i) 0 (s .args .cursors .now)) e (s .pre .2),
+      s .pre .2,
+      subst (λ rho. Cursors (lent s rho) (at (s .args .index .now)) (s .args .i) 0 (s .args .cursors .now)) e (s .pre .3),
     )
 
 same-length : tie.Need-same-length

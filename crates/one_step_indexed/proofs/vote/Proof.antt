@@ -37,13 +37,13 @@ count-of t = t .before .before .before .before
 abbrev from-votes : tie.After-tally-columns → tie.Start
 from-votes t = from-rows (rows-of t)
 
-abbrev votes-of : tie.After-flip-all → tie.After-tally-columns
+abbrev votes-of : tie.After-flip-by-index → tie.After-tally-columns
 votes-of f = f .before .before .before .before .before
 
-abbrev from-flips : tie.After-flip-all → tie.Start
+abbrev from-flips : tie.After-flip-by-index → tie.Start
 from-flips f = from-votes (votes-of f)
 
-abbrev flips-of : tie.After-turn-listed → tie.After-flip-all
+abbrev flips-of : tie.After-turn-listed → tie.After-flip-by-index
 flips-of t = t .before .before .before .before .before .before .before .before
 
 abbrev from-turns : tie.After-turn-listed → tie.Start
@@ -75,14 +75,14 @@ tallied t =
     (count-of t .count-odd .result) (t .tally-columns .ensures) (counted (count-of t))
 
 -- the word after the flips
-abbrev flipped : tie.After-flip-all → List ℕ
-flipped f = f .flip-all .last .1 .1 .0
+abbrev flipped : tie.After-flip-by-index → List ℕ
+flipped f = f .flip-by-index .last .1 .1 .1 .1 .0
 
-flipped-word : (f : tie.After-flip-all) → Word (lent (from-flips f)) (at (flipped f))
+flipped-word : (f : tie.After-flip-by-index) → Word (lent (from-flips f)) (at (flipped f))
 flipped-word f =
     let s = from-flips f in
     let t = votes-of f in
-    voted-bits (lent s) (s .pre .0) (word s) (votes t) (count-of t .count-odd .result) (tallied t) (flipped f) (f .flip-all .ensures) (s .pre .2)
+    voted-bits (lent s) (s .pre .0) (word s) (votes t) (count-of t .count-odd .result) (tallied t) (flipped f) (f .flip-by-index .ensures) (s .pre .2)
 
 -- its parities
 abbrev last-parity : tie.After-turn-listed → List ℕ
@@ -131,9 +131,8 @@ tally-columns-requires c κs =
     let s = from-rows r in
     (columns (lent s) (s .pre .0) (s .args .index .now) (s .pre .1), few-rows (lent s) (s .pre .0) (s .args .index .now) (s .pre .1), parities r .bits, refl)
 
-flip-all-requires : tie.Need-flip-all-requires
-unfolding Word
-flip-all-requires c κs = let s = from-votes (c .before .before .before .before) in (s .pre .0 .sizes .n-most, s .pre .2)
+flip-by-index-requires : tie.Need-flip-by-index-requires
+flip-by-index-requires c κs = search needs
 
 slice-aggregate-list-flips : tie.Need-slice-aggregate-list-flips
 slice-aggregate-list-flips c = search needs
@@ -169,7 +168,7 @@ returns-2 c =
     let f = flips-of t in
     let v = votes-of f in
     stepped-voted (lent s) (s .pre .0) (word s) (votes v) (count-of v .count-odd .result) (tallied v) (flipped f) (c .count-odd2 .result)
-    (v .before .before .before .if1 .left) (f .flip-all .ensures)
+    (v .before .before .before .if1 .left) (f .flip-by-index .ensures)
     (c .count-odd2 .ensures ∙ failing-odd (lent s) (at (flipped f)) (last-parity t) (renewed t .parities))
 
 pub vote-spec : {M : Type 1} → statement M
@@ -184,7 +183,7 @@ vote-spec =
     returns
     slice-aggregate-tally-columns
     tally-columns-requires
-    flip-all-requires
+    flip-by-index-requires
     slice-aggregate-list-flips
     list-flips-requires
     turn-listed-requires

@@ -10,7 +10,7 @@ use Rattle.session_round.proofs.round_on.Tie as tie
 
 -- ---- the places that the facts are known at
 
-abbrev tallied : tie.After-update → tie.After-tally
+abbrev tallied : tie.After-move-levels → tie.After-tally
 tallied c = c .before .before .before .before
 
 abbrev kept : tie.After-tally → tie.After-bias
@@ -22,25 +22,22 @@ unpacked c = c .before .before .before
 abbrev entered : tie.After-unpack → tie.Start
 entered c = c .before .before .before .before .before .before
 
-abbrev start : tie.After-update → tie.Start
+abbrev start : tie.After-move-levels → tie.Start
 start c = entered (unpacked (kept (tallied c)))
 
 abbrev lent-matrix : tie.Start → Matrix
 lent-matrix s = matrixOf (s .args .shape) (s .args .list .now)
 
--- ---- what is known after the update
+-- ---- what is known after the levels are moved
 
-next-bits : (c : tie.After-update) → Word (lent-matrix (start c)) (at (c .update .last .1 .1 .1 .1 .1 .0))
+next-bits : (c : tie.After-move-levels) → Word (lent-matrix (start c)) (at (c .move-levels .last .1 .1 .1 .1 .0))
 next-bits c =
     let s = start c in
     next-word (lent-matrix s) (s .args .middle) (s .args .word .now) (s .args .levels .now) (s .pre) _ _ _ _ _ _
-    (unpacked (kept (tallied c)) .unpack .ensures) (kept (tallied c) .bias .ensures) (tallied c .tally .ensures) _ _ (c .update .ensures)
+    (unpacked (kept (tallied c)) .unpack .ensures) (kept (tallied c) .bias .ensures) (tallied c .tally .ensures) _ _ (c .move-levels .ensures)
 
 cast-n : tie.Need-cast-n
 cast-n c = search needs
-
-mul-ceiling : tie.Need-mul-ceiling
-mul-ceiling c = search needs
 
 unpack-requires : tie.Need-unpack-requires
 unpack-requires c κs = search needs
@@ -53,8 +50,8 @@ tally-requires c κs =
     let u = unpacked (c .before .before) in
     (entered u .pre .matrix, unpacked-word (lent-matrix (entered u)) _ _ _ (u .unpack .ensures))
 
-update-requires : tie.Need-update-requires
-update-requires c κs = search needs
+move-levels-requires : tie.Need-move-levels-requires
+move-levels-requires c κs = search needs
 
 pack-into-requires : tie.Need-pack-into-requires
 unfolding Word
@@ -67,7 +64,7 @@ unbias-requires c κs =
     let u = c .before .before .before .before .before .before .before in
     let s = start u in
     next-restorable (lent-matrix s) (s .args .middle) (s .args .word .now) (s .args .levels .now) (s .pre) _ _ _ _ _ _
-    (unpacked (kept (tallied u)) .unpack .ensures) (kept (tallied u) .bias .ensures) (tallied u .tally .ensures) _ _ (u .update .ensures)
+    (unpacked (kept (tallied u)) .unpack .ensures) (kept (tallied u) .bias .ensures) (tallied u .tally .ensures) _ _ (u .move-levels .ensures)
 
 failing-count-requires : tie.Need-failing-count-requires
 failing-count-requires c κs =
@@ -86,7 +83,7 @@ returns c =
     let u = p .before .before .before in
     let s = start u in
     round-left (lent-matrix s) (s .args .middle) (s .args .word .now) (s .args .levels .now) (s .pre) _ _ _ _ _ _
-    (unpacked (kept (tallied u)) .unpack .ensures) (kept (tallied u) .bias .ensures) (tallied u .tally .ensures) _ _ (u .update .ensures) _ _ _
+    (unpacked (kept (tallied u)) .unpack .ensures) (kept (tallied u) .bias .ensures) (tallied u .tally .ensures) _ _ (u .move-levels .ensures) _ _ _
     (p .pack-into .ensures) (c .before .before .before .unbias .ensures) (c .failing-count .ensures)
 
 pub round-on-spec : {M : Type 1} → statement M
@@ -94,11 +91,10 @@ round-on-spec =
     tie.close
     (tie.spec
     cast-n
-    mul-ceiling
     unpack-requires
     bias-requires
     tally-requires
-    update-requires
+    move-levels-requires
     pack-into-requires
     unbias-requires
     failing-count-requires

@@ -23,7 +23,7 @@ use Rattle.counting.specs.Paper.Integers.{sumℤ}
 use Rattle.answers.specs.Paper.Answers.{report}
 use Rattle.packed_word.specs.Paper.Packed.{bitAt, packedByte, pack, spareSet, distance}
 use Rattle.matrix.specs.Paper.Code.{Matrix, matrix, entry, has, weight, common, fails, failing}
-use Rattle.matrix.specs.Paper.Check.{sizesFit, badEntry, badWeight, overlapping, listOf, checkOf}
+use Rattle.matrix.specs.Paper.Check.{sizesFit, badEntry, badWeight, noLeast, overlapping, listOf, checkOf}
 use Rattle.quantiser_levels.specs.Paper.Samples.{Setting, stepFits, settingFits, nearestWhole, magnitude, levelOf, hardOf, hardBit, notFinite}
 use Rattle.iterative_rounds.specs.Paper.Rounds.{others, extrinsic, levelAfter, roundOf, endOf}
 use Rattle.iterative_core.specs.Paper.Iterative.{startOf, changedIn, changedBits, endFrom, reportAt, samplesVerdict, iterativeVerdict, iterativeOf}
@@ -71,7 +71,7 @@ bounds =
 pub all-bounds : eachMade bounds ≡ eachWanted bounds
 unfolding bounds strong codeC three eachMade eachWanted made codeA setting iterativeOf iterativeVerdict samplesVerdict iterativeWord iterativeLevels
     reportAt endFrom changedBits changedIn startOf endOf roundOf levelAfter extrinsic others settingFits stepFits notFinite hardBit hardOf levelOf
-    magnitude nearestWhole sumℤ ofBits ofFields odd lt le checkOf listOf sizesFit badEntry badWeight overlapping failing fails common weight has entry
+    magnitude nearestWhole sumℤ ofBits ofFields odd lt le checkOf listOf sizesFit badEntry badWeight noLeast overlapping failing fails common weight has entry
     distance spareSet pack packedByte bitAt listed over anyBelow first sumBelow same unequal
 all-bounds = refl
 

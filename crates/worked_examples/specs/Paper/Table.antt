@@ -19,7 +19,7 @@ use Rattle.counting.specs.Paper.Integers.{sumℤ}
 use Rattle.answers.specs.Paper.Answers.{Said, refusal, report, count, acceptance}
 use Rattle.packed_word.specs.Paper.Packed.{bitAt, packedByte, pack, spareSet, distance}
 use Rattle.matrix.specs.Paper.Code.{Matrix, matrix, entry, has, weight, common, fails, failing}
-use Rattle.matrix.specs.Paper.Check.{sizesFit, badEntry, badWeight, overlapping, listOf, checkOf}
+use Rattle.matrix.specs.Paper.Check.{sizesFit, badEntry, badWeight, noLeast, overlapping, listOf, checkOf}
 use Rattle.syndrome.specs.Paper.Failing.{wordVerdict, failingVerdict, failingOf}
 use Rattle.majority_logic.specs.Paper.Votes.{votes, flipped}
 use Rattle.majority_logic.specs.Paper.OneStep.{stepWord, stepRounds, oneStepReport, oneStepVerdict, oneStepOf, oneStepWord}
@@ -107,7 +107,7 @@ eachWanted (r ∷ rs) = r .wanted ∷ eachWanted rs
 pub all-rows : eachMade table ≡ eachWanted table
 unfolding table eachMade eachWanted made codeA codeB setting seven iterativeOf iterativeVerdict samplesVerdict iterativeWord iterativeLevels reportAt
     endFrom changedBits changedIn startOf endOf roundOf levelAfter extrinsic others settingFits stepFits notFinite hardBit hardOf levelOf magnitude
-    nearestWhole sumℤ ofBits ofFields odd lt le checkOf listOf sizesFit badEntry badWeight overlapping failingOf failingVerdict wordVerdict oneStepOf
+    nearestWhole sumℤ ofBits ofFields odd lt le checkOf listOf sizesFit badEntry badWeight noLeast overlapping failingOf failingVerdict wordVerdict oneStepOf
     oneStepVerdict oneStepWord oneStepReport stepWord stepRounds flipped votes failing fails common weight has entry distance spareSet pack packedByte
     bitAt listed over anyBelow first sumBelow same unequal
 all-rows = refl

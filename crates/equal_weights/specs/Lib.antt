@@ -1,0 +1,2 @@
+-- The calls by a matrix's verdict, and what stays.
+pub mod Paper

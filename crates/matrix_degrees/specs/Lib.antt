@@ -1,0 +1,2 @@
+-- What the contracts of `matrix_degrees` cite.
+pub mod Degrees
