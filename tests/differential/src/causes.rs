@@ -21,7 +21,7 @@ pub fn matrix_with(present: [bool; 5]) -> Matrix {
     }
     let mut h = Code::from_rows("causes", 20, &rows).matrix;
     if weight {
-        move_a_one(&mut h, 9, 15);
+        h = moved(&h, 9, 15).expect("a row to move a one in");
     }
     if entry {
         h.list[31] = h.n;
@@ -35,18 +35,20 @@ pub fn matrix_with(present: [bool; 5]) -> Matrix {
     h
 }
 
-/// A one of the first row that allows it goes from column `from` to column `to`.
-fn move_a_one(h: &mut Matrix, from: u16, to: u16) {
+/// The matrix with a one of the first row that allows it moved from one column to the other, if
+/// there is such a row.
+pub fn moved(h: &Matrix, from: u16, to: u16) -> Option<Matrix> {
     let rho = usize::from(h.rho);
-    let row = h
+    let mut moved = h.clone();
+    let row = moved
         .list
         .chunks_mut(rho)
-        .find(|row| row.contains(&from) && !row.contains(&to))
-        .expect("a row to move a one in");
+        .find(|row| row.contains(&from) && !row.contains(&to))?;
     for c in row.iter_mut().filter(|c| **c == from) {
         *c = to;
     }
     row.sort_unstable();
+    Some(moved)
 }
 
 /// Which of `count` causes are present in the subset of this number.

@@ -19,8 +19,8 @@ pub use indexed::Indexed;
 #[cfg(feature = "samples")]
 pub use samples::{bytes_for, quantise, quantise_exactly, Left};
 #[cfg(feature = "session")]
-pub use session::Lent;
-pub use subject::Subject;
+pub use session::{Lent, WORKING};
+pub use subject::{refusal, Subject};
 
 use generator::Random;
 

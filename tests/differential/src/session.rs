@@ -6,6 +6,9 @@ use ffi_face::{cells_of, record_of, Packed};
 use generator::Random;
 use reference::{Answer, Refusal, Session, Setting};
 
+/// The code of an answer whose record is working.
+pub const WORKING: u64 = 2;
+
 /// What a session's calls are lent to change: the record's cells, the word and the levels.
 #[derive(Clone, Debug, PartialEq)]
 pub struct Lent {
@@ -152,5 +155,35 @@ impl Subject {
         assert!(guarded_received.holds(received), "received, {}", call());
         assert!(self.list_stands(), "list, {}", call());
         answer
+    }
+
+    /// Opens, steps to the end, and compares with the whole call. Gives the number of steps.
+    pub fn stepped(&self, setting: &Setting, samples: &[f32], random: &mut Random) -> u64 {
+        let (n, needed) = (usize::from(self.matrix().n), self.needed());
+        let whole = self.iterative(setting, samples, needed, n, random);
+        assert_eq!(whole.answer.refusal(), 0);
+
+        let mut lent = Lent::by_chance(self, random);
+        let mut answer = self.open(&mut lent, setting, samples, random);
+        let received = lent.word[..needed].to_vec();
+        let mut steps = 0;
+        while answer.0 % (1 << 32) == WORKING {
+            assert_eq!(lent.record[0], 1);
+            assert!(steps < u64::from(setting.limit), "steps past the limit");
+            answer = self.step(&mut lent, &received, random);
+            steps += 1;
+            assert_eq!(u64::from(lent.record[3]), steps);
+        }
+        assert_eq!(answer, whole.answer);
+        assert_eq!(lent.word[..needed], whole.word);
+        assert_eq!(lent.levels[..n], whole.levels);
+        assert_eq!((answer.0 >> 32) % 256, steps);
+
+        // After the end every step is refused, and changes nothing.
+        for _ in 0..2 {
+            let refused = self.step(&mut lent, &received, random);
+            assert_eq!(refused, Packed::new(21 * 65536, 0, 0, 0));
+        }
+        steps
     }
 }

@@ -3,6 +3,20 @@ use ffi_face::{LentMatrix, Packed};
 use generator::Random;
 use reference::{byte_count, Matrix, Refusal};
 
+/// The library's refusal of a matrix and its place, the same in the check, the count of failing
+/// checks and one-step voting; 0 for accepted.
+pub fn refusal(h: &Matrix, random: &mut Random) -> (u64, u64) {
+    let subject = Subject::new(h, random);
+    let answer = subject.check();
+    if answer.refusal() != 0 {
+        let received = random.bytes(byte_count(h.n));
+        let room = byte_count(h.n) + random.below(3);
+        assert_eq!(subject.failing(&received, random), answer);
+        assert_eq!(subject.one_step(&received, room, random).0, answer);
+    }
+    (answer.refusal(), answer.place())
+}
+
 /// A matrix that both sides are asked about. The reference checks it once.
 pub struct Subject {
     matrix: Matrix,

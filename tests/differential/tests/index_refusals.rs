@@ -4,7 +4,7 @@ use differential::causes::{matrix_with, subset, PLACES};
 use differential::{cases, random, Indexed};
 use ffi_face::Packed;
 use generator::codes::{self, Code};
-use generator::{damage, settings, Random};
+use generator::{damage, settings, unlike, Random};
 use reference::{index_of, pack, Setting};
 
 fn refused(number: u64, place: u64) -> Packed {
@@ -25,12 +25,14 @@ fn changed(indexed: &Indexed, change: impl FnOnce(&mut Vec<u16>)) -> Vec<u16> {
 }
 
 /// Codes of the largest sizes.
-fn largest() -> [Code; 4] {
+fn largest() -> [Code; 6] {
     [
         codes::eg1023(),
         codes::qc961(),
         codes::cycle(1023),
         codes::single_row(3).copies(341),
+        unlike::irregular1000(),
+        unlike::star(32, 2).copies(31),
     ]
 }
 
@@ -46,9 +48,9 @@ fn every_change_of(indexed: &Indexed, at: usize, random: &mut Random) {
 }
 
 #[test]
-fn every_number_of_code_a_and_code_b() {
+fn every_number_of_code_a_code_b_and_code_u() {
     let mut random = random(1800);
-    for code in [codes::code_a(), codes::code_b()] {
+    for code in [codes::code_a(), codes::code_b(), unlike::code_u()] {
         let indexed = Indexed::new(&code.matrix, &mut random);
         assert_eq!(indexed.lend(indexed.own(), &mut random), (0, 0));
         for at in 0..indexed.own().len() {
@@ -213,8 +215,10 @@ fn columns_in_another_order() {
     for code in [
         codes::code_a(),
         codes::code_b(),
+        unlike::code_u(),
         codes::tanner155(),
         codes::eg1023(),
+        unlike::irregular1000(),
     ] {
         let indexed = Indexed::new(&code.matrix, &mut random);
         let columns = cells_of_columns(&indexed);
@@ -262,11 +266,10 @@ fn indices_of_other_matrices() {
     let all = [codes::small(), codes::medium(), largest().to_vec()].concat();
     for code in &all {
         let indexed = Indexed::new(&code.matrix, &mut random);
-        let others = [
-            code.shuffled(&mut random),
-            code.transposed(),
-            random.pick(&all).clone(),
-        ];
+        let mut others = vec![code.shuffled(&mut random), random.pick(&all).clone()];
+        if code.is_regular() {
+            others.push(code.transposed());
+        }
         for other in others {
             let index = index_of(&other.matrix);
             if index != indexed.own() {

@@ -3,7 +3,7 @@
 use differential::{cases, random, Left, Subject};
 use ffi_face::Packed;
 use generator::codes::{self, Code};
-use generator::{noise, settings, Codewords, Random};
+use generator::{noise, settings, unlike, Codewords, Random};
 use reference::{hard_bit, pack, Setting};
 
 const LIMITS: [u16; 6] = [0, 1, 2, 5, 30, 255];
@@ -227,6 +227,7 @@ fn codes_of_the_benchmark() {
         (codes::eg1023(), 0.015, 0.56),
         (codes::qc961(), 0.025, 0.56),
         (codes::tanner155(), 0.25, 0.5),
+        (unlike::irregular1000(), 0.1, 0.55),
     ] {
         let subject = Subject::new(&code.matrix, &mut random);
         let codewords = Codewords::of(&code.matrix);

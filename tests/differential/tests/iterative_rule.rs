@@ -2,14 +2,13 @@
 //! gamma / 2 places come back to it within a known number of rounds, however strong the wrong
 //! samples and however weak the right ones. The reference's opinion is asked as well.
 
-use differential::{cases, random, Lent, Subject};
+use differential::{cases, random, Lent, Subject, WORKING};
 use ffi_face::Packed;
 use generator::codes::{self, Code};
-use generator::{patterns, settings, Codewords, Random};
+use generator::{patterns, settings, unlike, Codewords, Random};
 use reference::{hard_bit, largest_level, level, pack, Setting};
 
 const FAILED: u64 = 1;
-const WORKING: u64 = 2;
 
 /// A limit that is enough for every code and every number of wrong bits: L / 2 + 1.
 fn enough(bits: u16) -> usize {
@@ -343,6 +342,24 @@ fn all_levels_of_code_a_and_b() {
     assert_eq!(blocks, 16 * (1 + 9) * most);
 }
 
+/// Width 2 whole on codes of unlike columns, whose smallest weight is 2 or 3: a wrong bit of a heavier
+/// column has more checks against it, a right one more for it.
+#[test]
+fn all_levels_of_unlike_columns() {
+    let mut random = random(1507);
+    for (code, words) in [
+        (unlike::code_u(), 4),
+        (unlike::wheel(5), 2),
+        (unlike::without_rows(&codes::code_a(), &[0]), 8),
+    ] {
+        let (n, gamma) = (usize::from(code.matrix.n), code.matrix.gamma);
+        let blocks = levels_of_code(code, 2, words, usize::MAX, &mut random);
+        let most = (words * (1 + n)) << n;
+        // With an odd gamma no level is left out.
+        assert!(blocks == most || (gamma == 2 && blocks > most / 4));
+    }
+}
+
 fn small_and_three_more() -> Vec<Code> {
     let mut codes = codes::small();
     codes.push(codes::tanner155());
@@ -371,6 +388,8 @@ fn some_large() -> Vec<Code> {
         codes::complete_graph(33),
         codes::cycle(1023),
         codes::single_row(31).copies(33),
+        unlike::irregular1000(),
+        unlike::without_rows_of_column_0(&codes::eg1023(), 16),
     ]
 }
 

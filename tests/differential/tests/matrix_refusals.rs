@@ -1,24 +1,12 @@
-//! Damaged matrices: refusals 2 to 5 with their places, and the lowest number of several.
+//! Damaged matrices: refusals 2, 3 and 5 with their places, and the lowest number of several.
 //!
 //! The place is given here as the damage was done, and by the reference.
 
-use differential::{cases, random, Subject};
+use differential::causes::moved;
+use differential::{cases, random, refusal};
 use generator::codes::{self, Code};
 use generator::{damage, Random};
-use reference::{byte_count, Matrix};
-
-/// The library's refusal, the same in all three calls; 0 for accepted.
-fn refusal(h: &Matrix, random: &mut Random) -> (u64, u64) {
-    let subject = Subject::new(h, random);
-    let answer = subject.check();
-    if answer.refusal() != 0 {
-        let received = random.bytes(byte_count(h.n));
-        let room = byte_count(h.n) + random.below(3);
-        assert_eq!(subject.failing(&received, random), answer);
-        assert_eq!(subject.one_step(&received, room, random).0, answer);
-    }
-    (answer.refusal(), answer.place())
-}
+use reference::Matrix;
 
 /// The code with its matrix changed.
 fn changed(code: &Code, change: impl FnOnce(&mut Matrix)) -> Matrix {
@@ -157,84 +145,6 @@ fn entries_across_a_row_boundary() {
         ..equal
     };
     assert_eq!(refusal(&below, &mut random), (0, 0));
-}
-
-/// A one of some row moved from one column to the other, if a row allows it.
-fn moved(h: &Matrix, from: u16, to: u16) -> Option<Matrix> {
-    let rho = usize::from(h.rho);
-    let mut moved = h.clone();
-    for row in moved.list.chunks_mut(rho) {
-        if row.contains(&from) && !row.contains(&to) {
-            row.iter_mut()
-                .for_each(|c| *c = if *c == from { to } else { *c });
-            row.sort_unstable();
-            return Some(moved);
-        }
-    }
-    None
-}
-
-#[test]
-fn weights_one_off() {
-    let mut random = random(504);
-    for code in samples() {
-        let n = code.matrix.n;
-        let mut pairs = vec![(0, 1), (0, n - 1), (n / 2, n - 1), (n - 2, n - 1)];
-        if n <= 16 {
-            pairs = (0..n)
-                .flat_map(|a| (a + 1..n).map(move |b| (a, b)))
-                .collect();
-        }
-        for (low, high) in pairs {
-            for (from, to) in [(low, high), (high, low)] {
-                if let Some(h) = moved(&code.matrix, from, to) {
-                    assert_eq!(
-                        refusal(&h, &mut random),
-                        (4, u64::from(low)),
-                        "{}",
-                        code.name
-                    );
-                }
-            }
-        }
-    }
-}
-
-#[test]
-fn weights_of_eg1023() {
-    let mut random = random(505);
-    let eg = codes::eg1023();
-    for (low, high) in [(0, 1022), (511, 512), (1021, 1022)] {
-        for (from, to) in [(low, high), (high, low)] {
-            let h = moved(&eg.matrix, from, to).expect("two columns share one row");
-            assert_eq!(refusal(&h, &mut random), (4, u64::from(low)));
-        }
-    }
-}
-
-/// A weight that is gamma again when only its low byte is kept.
-#[test]
-fn weights_far_too_high() {
-    let mut random = random(506);
-    for ones in [257, 258, 259, 514, 770, 1022, 1023] {
-        let mut list = Vec::new();
-        for i in 0..1023_u16 {
-            let other = 1 + i % 1022;
-            if i < ones {
-                list.extend([0, other]);
-            } else {
-                list.extend([other.min(1021), 1022]);
-            }
-        }
-        let h = Matrix {
-            n: 1023,
-            m: 1023,
-            rho: 2,
-            gamma: 2,
-            list,
-        };
-        assert_eq!(refusal(&h, &mut random), (4, 0));
-    }
 }
 
 /// Cycles of length at least 3 and double edges, which are pairs of equal rows: rho 2, gamma 2.
@@ -401,6 +311,23 @@ fn first_and_last_row() {
     }
 }
 
+/// No column weighs gamma, and two rows are equal: 4 with place n comes before 5.
+#[test]
+fn no_least_weight_comes_before_equal_rows() {
+    let mut random = random(515);
+    for m in [5, 20, 1023] {
+        for first in [true, false] {
+            let overlapping = double_edges(m, &[(1, 3)], first);
+            assert_eq!(refusal(&overlapping, &mut random), (5, 1));
+            let none_least = Matrix {
+                gamma: 1,
+                ..overlapping
+            };
+            assert_eq!(refusal(&none_least, &mut random), (4, m as u64));
+        }
+    }
+}
+
 /// Damages of all numbers in one matrix: each repair lets the next number show.
 #[test]
 fn the_lowest_number_is_given() {
@@ -415,11 +342,13 @@ fn the_lowest_number_is_given() {
     let mut length = entry.clone();
     length.list.push(0);
     assert_eq!(refusal(&length, &mut random), (2, 0));
-    for size in 0..4 {
+    // One column more or a greater gamma asks for more ones than there are; one row more or a
+    // greater rho doesn't.
+    for (size, number) in [1, 2, 2, 1].into_iter().enumerate() {
         let mut sizes = length.clone();
         let fields = [&mut sizes.n, &mut sizes.m, &mut sizes.rho, &mut sizes.gamma];
         *fields.into_iter().nth(size).unwrap() += 1;
-        assert_eq!(refusal(&sizes, &mut random), (1, 0));
+        assert_eq!(refusal(&sizes, &mut random), (number, 0));
     }
 }
 

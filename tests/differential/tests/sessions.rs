@@ -1,43 +1,11 @@
 //! Sessions: after every call the record, word, levels and answer; stepped runs against whole
 //! calls; words, levels and matrices that change between steps.
 
-use differential::{cases, random, Lent, Subject};
+use differential::{cases, random, Lent, Subject, WORKING};
 use ffi_face::Packed;
 use generator::codes::{self, Code};
 use generator::{noise, settings, Codewords, Random};
 use reference::{largest_level, pack, Setting};
-
-const WORKING: u64 = 2;
-
-/// Opens, steps to the end, and compares with the whole call. Gives the number of steps.
-fn stepped(subject: &Subject, setting: &Setting, samples: &[f32], random: &mut Random) -> u64 {
-    let (n, needed) = (usize::from(subject.matrix().n), subject.needed());
-    let whole = subject.iterative(setting, samples, needed, n, random);
-    assert_eq!(whole.answer.refusal(), 0);
-
-    let mut lent = Lent::by_chance(subject, random);
-    let mut answer = subject.open(&mut lent, setting, samples, random);
-    let received = lent.word[..needed].to_vec();
-    let mut steps = 0;
-    while answer.0 % (1 << 32) == WORKING {
-        assert_eq!(lent.record[0], 1);
-        assert!(steps < u64::from(setting.limit), "steps past the limit");
-        answer = subject.step(&mut lent, &received, random);
-        steps += 1;
-        assert_eq!(u64::from(lent.record[3]), steps);
-    }
-    assert_eq!(answer, whole.answer);
-    assert_eq!(lent.word[..needed], whole.word);
-    assert_eq!(lent.levels[..n], whole.levels);
-    assert_eq!((answer.0 >> 32) % 256, steps);
-
-    // After the end every step is refused, and changes nothing.
-    for _ in 0..2 {
-        let refused = subject.step(&mut lent, &received, random);
-        assert_eq!(refused, Packed::new(21 * 65536, 0, 0, 0));
-    }
-    steps
-}
 
 fn block(codewords: &Codewords, random: &mut Random) -> Vec<f32> {
     let deviation = *random.pick(&[0.0, 0.3, 0.5, 0.7, 1.0, 3.0]);
@@ -92,7 +60,7 @@ fn small_codes() {
         for _ in 0..cases(20) {
             let setting = some_setting(&[0, 1, 2, 5, 30, 255], &mut random);
             let samples = block(&codewords, &mut random);
-            most = most.max(stepped(&subject, &setting, &samples, &mut random));
+            most = most.max(subject.stepped(&setting, &samples, &mut random));
         }
     }
     assert_eq!(most, 255);
@@ -107,7 +75,7 @@ fn medium_codes() {
         for _ in 0..cases(4) {
             let setting = some_setting(&[0, 1, 2, 5, 12], &mut random);
             let samples = block(&codewords, &mut random);
-            stepped(&subject, &setting, &samples, &mut random);
+            subject.stepped(&setting, &samples, &mut random);
         }
     }
 }
@@ -121,7 +89,7 @@ fn large_codes() {
         for _ in 0..cases(2) {
             let setting = some_setting(&[1, 2, 5], &mut random);
             let samples = block(&codewords, &mut random);
-            stepped(&subject, &setting, &samples, &mut random);
+            subject.stepped(&setting, &samples, &mut random);
         }
     }
 }

@@ -1,10 +1,20 @@
 //! Sizes at and outside their ranges: refusal 1.
 
-use differential::{random, Subject};
+use differential::{cases, random, Subject};
 use ffi_face::Packed;
 use generator::codes::{self, Code};
-use generator::Random;
+use generator::{unlike, Random};
 use reference::{byte_count, Matrix};
+
+fn sized([n, m, rho, gamma]: [u16; 4], list: Vec<u16>) -> Matrix {
+    Matrix {
+        n,
+        m,
+        rho,
+        gamma,
+        list,
+    }
+}
 
 /// All three calls, with a received word and a buffer of some length.
 fn compare(h: &Matrix, random: &mut Random) -> Packed {
@@ -46,13 +56,7 @@ fn one_beyond_the_range() {
     // No rows, and so no ones in a column.
     for n in [0, 1, 2, 7, 1023] {
         for rho in [0, 2, 32] {
-            let h = Matrix {
-                n,
-                m: 0,
-                rho,
-                gamma: 0,
-                list: vec![],
-            };
+            let h = sized([n, 0, rho, 0], vec![]);
             refused_by_1(&h, &mut random);
         }
     }
@@ -92,34 +96,75 @@ fn n_1023_and_1024() {
     refused_by_1(&h, &mut random);
 }
 
+/// Refused by 1 exactly where m × rho is below n × gamma; all sizes are in range.
+fn ones_are_enough(h: &Matrix, random: &mut Random) -> bool {
+    let by_rows = u32::from(h.m) * u32::from(h.rho);
+    let by_columns = u32::from(h.n) * u32::from(h.gamma);
+    let refused = compare(h, random).refusal() == 1;
+    let sizes = (h.n, h.m, h.rho, h.gamma);
+    assert_eq!(refused, by_rows < by_columns, "{sizes:?}");
+    !refused
+}
+
 /// m × rho one row or one place off n × gamma.
 #[test]
 fn ones_by_rows_and_by_columns() {
     let mut random = random(603);
     for code in codes::small() {
         let right = &code.matrix;
-        let off = [
-            (right.n + 1, right.m, right.rho, right.gamma),
-            (right.n - 1, right.m, right.rho, right.gamma),
-            (right.n, right.m + 1, right.rho, right.gamma),
-            (right.n, right.m - 1, right.rho, right.gamma),
-            (right.n, right.m, right.rho + 1, right.gamma),
-            (right.n, right.m, right.rho - 1, right.gamma),
-            (right.n, right.m, right.rho, right.gamma + 1),
-            (right.n, right.m, right.rho, right.gamma - 1),
-        ];
-        for (n, m, rho, gamma) in off {
-            let list = right.list.clone();
-            let h = Matrix {
-                n,
-                m,
-                rho,
-                gamma,
-                list,
-            };
-            refused_by_1(&h, &mut random);
+        for at in 0..8 {
+            let mut h = right.clone();
+            let size = [&mut h.n, &mut h.m, &mut h.rho, &mut h.gamma].into_iter();
+            let size = size.take(1 + at / 2).last().expect("four sizes");
+            *size = if at % 2 == 0 { *size + 1 } else { *size - 1 };
+            if h.n > 1 && h.m > 0 && h.rho > 1 && h.gamma > 0 {
+                ones_are_enough(&h, &mut random);
+            } else {
+                refused_by_1(&h, &mut random);
+            }
         }
     }
+}
+
+/// m × rho one below n × gamma, equal to it, and one above, in matrices that are else right.
+#[test]
+fn one_below_equal_and_one_above() {
+    let mut random = random(606);
+    for sizes in [
+        [5, 2, 2, 1],
+        [4, 2, 2, 1],
+        [3, 2, 2, 1],
+        [1023, 991, 32, 31],
+        [1023, 1023, 31, 31],
+        [1022, 1023, 31, 31],
+        [991, 1023, 31, 32],
+    ] {
+        ones_are_enough(&sized(sizes, vec![]), &mut random);
+    }
+    let fork = unlike::star(2, 2).matrix;
+    assert_eq!(compare(&fork, &mut random).refusal(), 0);
+    let pairs = codes::single_row(2).copies(2).matrix;
+    assert_eq!(compare(&pairs, &mut random).refusal(), 0);
+}
+
+/// The fewest rows that have enough ones, and one row less.
+#[test]
+fn the_fewest_rows() {
+    let mut random = random(607);
+    let mut enough = 0;
+    for _ in 0..cases(2000) {
+        let n = 2 + random.below(1022);
+        let (rho, gamma) = (2 + random.below(31), 1 + random.below(32));
+        let fewest = (n * gamma).div_ceil(rho);
+        for m in [fewest, fewest - 1] {
+            if (1..=1023).contains(&m) {
+                let sizes = [n, m, rho, gamma].map(|size| size as u16);
+                let h = sized(sizes, vec![0; random.below(3)]);
+                enough += usize::from(ones_are_enough(&h, &mut random));
+            }
+        }
+    }
+    assert!(enough > 500, "{enough}");
 }
 
 /// All combinations of sizes at the ends of ranges and of 16 bits.
@@ -143,13 +188,7 @@ fn all_extremes() {
                         length
                     };
                     let list = ascending[..length.min(40_000)].to_vec();
-                    let h = Matrix {
-                        n,
-                        m,
-                        rho,
-                        gamma,
-                        list,
-                    };
+                    let h = sized([n, m, rho, gamma], list);
                     compare(&h, &mut random);
                 }
             }
@@ -157,7 +196,7 @@ fn all_extremes() {
     }
 }
 
-/// Products that are equal only when cut to 16 bits.
+/// Products that are equal or greater only when cut to 16 bits.
 #[test]
 fn products_cut_to_16_bits() {
     let mut random = random(605);
@@ -171,13 +210,7 @@ fn products_cut_to_16_bits() {
         (512, 256, 256, 128),
     ] {
         let list = vec![0, 1];
-        let h = Matrix {
-            n,
-            m,
-            rho,
-            gamma,
-            list,
-        };
+        let h = sized([n, m, rho, gamma], list);
         refused_by_1(&h, &mut random);
     }
 }

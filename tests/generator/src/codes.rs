@@ -1,6 +1,7 @@
-//! Accepted parity-check matrices of many kinds.
+//! Accepted parity-check matrices of many kinds. Those of unlike columns are in [`crate::unlike`].
 
 use crate::random::Random;
+use crate::unlike;
 use reference::Matrix;
 
 /// A parity-check matrix with the name of its code.
@@ -11,12 +12,13 @@ pub struct Code {
 }
 
 impl Code {
-    /// A code from its rows, each a list of different columns in any order.
+    /// A code from its rows, each a list of different columns in any order. Its gamma is its
+    /// smallest column weight.
     pub fn from_rows(name: impl Into<String>, n: usize, rows: &[Vec<usize>]) -> Code {
         let name = name.into();
         let (m, rho) = (rows.len(), rows[0].len());
         assert!(rows.iter().all(|row| row.len() == rho), "{name}: rho");
-        assert_eq!(m * rho % n, 0, "{name}: gamma");
+        let gamma = weights(n, rows).into_iter().min().unwrap_or(0);
         let mut list = Vec::with_capacity(m * rho);
         for row in rows {
             let mut row: Vec<u16> = row.iter().map(|&c| c as u16).collect();
@@ -27,7 +29,7 @@ impl Code {
             n: n as u16,
             m: m as u16,
             rho: rho as u16,
-            gamma: (m * rho / n) as u16,
+            gamma: gamma as u16,
             list,
         };
         Code { name, matrix }
@@ -53,7 +55,18 @@ impl Code {
         columns
     }
 
-    /// Rows and columns exchanged. If two columns shared two rows, these would share two columns.
+    /// The weight of each column.
+    pub fn weights(&self) -> Vec<usize> {
+        weights(self.matrix.n.into(), &self.rows())
+    }
+
+    /// Whether every column weighs gamma.
+    pub fn is_regular(&self) -> bool {
+        let gamma = usize::from(self.matrix.gamma);
+        self.weights().iter().all(|&weight| weight == gamma)
+    }
+
+    /// The code of a regular matrix with rows and columns exchanged. If two columns shared two rows, these would share two columns.
     pub fn transposed(&self) -> Code {
         let name = format!("{} transposed", self.name);
         Code::from_rows(name, usize::from(self.matrix.m), &self.columns())
@@ -84,6 +97,13 @@ impl Code {
         random.shuffle(&mut rows);
         Code::from_rows(format!("{} shuffled", self.name), n, &rows)
     }
+}
+
+/// How many rows have each of n columns.
+fn weights(n: usize, rows: &[Vec<usize>]) -> Vec<usize> {
+    let mut weights = vec![0; n];
+    rows.iter().flatten().for_each(|&j| weights[j] += 1);
+    weights
 }
 
 /// Row i is the first row moved by i places around n columns.
@@ -329,7 +349,7 @@ pub fn projective_prime(p: usize) -> Code {
 
 /// Codes of at most 24 bits.
 pub fn small() -> Vec<Code> {
-    vec![
+    let mut codes = vec![
         code_a(),
         code_b(),
         triangle(),
@@ -369,12 +389,14 @@ pub fn small() -> Vec<Code> {
         projective(1),
         projective_prime(3),
         projective(2),
-    ]
+    ];
+    codes.extend(unlike::small());
+    codes
 }
 
 /// Codes of 25 to 300 bits.
 pub fn medium() -> Vec<Code> {
-    vec![
+    let mut codes = vec![
         tanner155(),
         tanner155().transposed(),
         projective_prime(5),
@@ -402,12 +424,14 @@ pub fn medium() -> Vec<Code> {
         grid(9),
         grid(31).transposed(),
         euclidean(2).copies(9),
-    ]
+    ];
+    codes.extend(unlike::medium());
+    codes
 }
 
 /// Codes with a size at its limit or near it.
 pub fn large() -> Vec<Code> {
-    vec![
+    let mut codes = vec![
         eg1023(),
         qc961(),
         euclidean_prime(31),
@@ -426,7 +450,9 @@ pub fn large() -> Vec<Code> {
         single_row(32).copies(31),
         code_a().copies(146),
         euclidean(2).copies(68),
-    ]
+    ];
+    codes.extend(unlike::large());
+    codes
 }
 
 /// All of them.

@@ -13,6 +13,7 @@ pub mod patterns;
 pub mod random;
 pub mod settings;
 pub mod stream;
+pub mod unlike;
 
 pub use codes::Code;
 pub use codewords::Codewords;

@@ -1,7 +1,7 @@
 //! The reference accepts every generated matrix, and its codewords are codewords.
 
 use generator::codes::{self, Code};
-use generator::{damage, patterns, Codewords, Random};
+use generator::{damage, patterns, unlike, Codewords, Random};
 use reference::{check, failing_checks};
 
 fn sizes(code: &Code) -> [u16; 4] {
@@ -44,6 +44,10 @@ fn known_codes_have_their_sizes_and_dimensions() {
     assert_eq!(dimension(&example_2), 721);
     // The other array of the same sizes has another dimension.
     assert_eq!(dimension(&codes::qc961()), 31);
+    assert_eq!(sizes(&unlike::irregular504()), [504, 252, 8, 3]);
+    assert_eq!(dimension(&unlike::irregular504()), 252);
+    assert_eq!(sizes(&unlike::irregular1000()), [1000, 500, 12, 4]);
+    assert_eq!(dimension(&unlike::irregular1000()), 501);
     assert_eq!(dimension(&codes::code_a()), 3);
     assert_eq!(dimension(&codes::code_b()), 4);
     for s in 2..=5 {

@@ -1,6 +1,6 @@
 //! The files in examples/ are the generator's. WRITE_EXAMPLES=1 writes them anew.
 
-use generator::example;
+use generator::example::{self, BlockSet};
 use reference::pack;
 use std::fs;
 use std::path::{Path, PathBuf};
@@ -31,11 +31,10 @@ fn the_files_are_as_generated() {
 
 /// Blocks that need no round, blocks that need a few, and one that fails; what is decoded is what
 /// was sent.
-#[test]
-fn the_blocks_show_every_end() {
-    let [_, _, (_, expected), _] = example::files();
+fn shows_every_end(set: &BlockSet) {
     let (mut at_once, mut later, mut failed) = (0, 0, 0);
-    for (line, sent) in expected.lines().skip(1).zip(example::sent()) {
+    let expected = set.expected();
+    for (line, sent) in expected.lines().skip(1).zip(set.sent()) {
         let fields: Vec<&str> = line.split(' ').collect();
         match (fields[1], fields[2].parse::<usize>().unwrap()) {
             ("decoded", rounds) => {
@@ -55,4 +54,10 @@ fn the_blocks_show_every_end() {
         }
     }
     assert!(at_once >= 2 && later >= 5 && failed == 1, "{expected}");
+}
+
+#[test]
+fn the_blocks_show_every_end() {
+    shows_every_end(&example::of_tanner155());
+    shows_every_end(&example::of_irregular504());
 }

@@ -1,8 +1,9 @@
 //! What the program prints, for inputs of many kinds.
 
-use generator::{codes, example, inputs, noise, settings, stream, Codewords, Random};
+use generator::{codes, example, inputs, noise, settings, stream, unlike, Codewords, Random};
 use program::{assert_same, Program};
 use reference::Matrix;
+use std::path::Path;
 
 /// Whole runs, refused heads and inputs by chance: more than two hundred.
 fn compare_all(inputs: Vec<inputs::Named>, least: usize) {
@@ -72,6 +73,7 @@ fn large_codes() {
         (codes::eg1023(), 0.015, 0.51),
         (codes::qc961(), 0.025, 0.535),
         (codes::tanner155(), 0.1, 0.585),
+        (unlike::irregular1000(), 0.1, 0.55),
     ] {
         let codewords = Codewords::of(&code.matrix);
         let blocks: Vec<Vec<f32>> = (0..8)
@@ -117,19 +119,77 @@ fn every_cut_point() {
     }
 }
 
-/// The block set in examples/ gives the lines stored beside it.
+/// Code U, whose m × rho is more than n × gamma, with two blocks: the list is read, and a list that
+/// ends too soon is "short". Cut anywhere.
 #[test]
-fn the_example() {
+fn unlike_columns_cut_anywhere() {
     let Some(program) = Program::find() else {
         return;
     };
-    let stored = concat!(env!("CARGO_MANIFEST_DIR"), "/../../examples/expected.txt");
-    let expected = std::fs::read(stored).expect("examples/expected.txt");
-    assert_same(
-        "the example",
-        &program.printed(&example::input()),
-        &expected,
-    );
+    let mut block = vec![-1.0; 9];
+    block[0] = 0.5;
+    let setting = settings::level_step(4, 5, 0.5);
+    let matrix = unlike::code_u().matrix;
+    let input = stream::input(&matrix, &setting, &[block.clone(), block]);
+    let heading = "block end rounds failing changed word\n";
+    let lines = "0 decoded 1 0 1 0000\n1 decoded 1 0 1 0000\n";
+    let printed = program.printed(&input);
+    assert_same("code U", &printed, (heading.to_owned() + lines).as_bytes());
+    for cut in 0..=input.len() {
+        program.compare(&format!("code U cut at {cut}"), &input[..cut]);
+    }
+    // Sizes, 21 numbers of the list, three bytes and the step.
+    let head = 8 + 2 * 21 + 3 + 4;
+    for cut in 0..head {
+        let short = (heading.to_owned() + "short\n").into_bytes();
+        assert_same("short", &program.printed(&input[..cut]), &short);
+    }
+}
+
+/// The line of a run that is refused for its matrix.
+fn refused_line(program: &Program, matrix: &Matrix) -> String {
+    let setting = settings::level_step(4, 5, 0.5);
+    let input = stream::input(matrix, &setting, &[vec![1.0; matrix.n.into()]]);
+    program.compare("a refused matrix", &input);
+    let printed = String::from_utf8(program.printed(&input)).expect("text");
+    printed.lines().nth(1).unwrap_or_default().into()
+}
+
+/// The gamma of the input is the smallest weight; a column has at most 32 ones.
+#[test]
+fn weights_off() {
+    let Some(program) = Program::find() else {
+        return;
+    };
+    let code_u = |gamma| Matrix {
+        gamma,
+        ..unlike::code_u().matrix
+    };
+    assert_eq!(refused_line(&program, &code_u(1)), "refused 4 9");
+    assert_eq!(refused_line(&program, &code_u(3)), "refused 1 0");
+    let star = unlike::star(33, 2).matrix;
+    assert_eq!(refused_line(&program, &star), "refused 4 0");
+    let cycle = Matrix {
+        gamma: 1,
+        ..codes::cycle(1023).matrix
+    };
+    assert_eq!(refused_line(&program, &cycle), "refused 4 1023");
+}
+
+/// The block sets in examples/ give the lines stored beside them.
+#[test]
+fn the_examples() {
+    let Some(program) = Program::find() else {
+        return;
+    };
+    let folder = Path::new(env!("CARGO_MANIFEST_DIR")).join("../../examples");
+    for (set, stored) in [
+        (example::of_tanner155(), "expected.txt"),
+        (example::of_irregular504(), "irregular504.txt"),
+    ] {
+        let expected = std::fs::read(folder.join(stored)).expect(stored);
+        assert_same(stored, &program.printed(&set.input()), &expected);
+    }
 }
 
 /// "at most 65,535 are read, then the run ends."

@@ -34,7 +34,7 @@ fn the_example_is_the_stored_one() {
     assert_eq!(fs::read(folder.join("stdout")).expect("stdout"), expected);
     assert_eq!(
         fs::read(folder.join("stdin")).expect("stdin"),
-        example::input()
+        example::of_tanner155().input()
     );
 }
 

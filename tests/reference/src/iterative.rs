@@ -70,8 +70,8 @@ impl Voting {
     }
 }
 
-/// "E is the sum over its γ checks of +1 if the other bits of that check have an odd number of
-/// ones, else −1."
+/// "E is the sum over its [..] checks of +1 if the other bits of that check have an odd number of
+/// ones, else −1." Card 2: "E sums over its own checks."
 fn extrinsic(h: &Matrix, z: &[bool], j: usize, checks: &[usize]) -> i32 {
     let mut e = 0;
     for &i in checks {

@@ -12,14 +12,11 @@ pub fn failing_checks(h: &Matrix, z: &[bool]) -> usize {
     (0..usize::from(h.m)).filter(|&i| fails(h, z, i)).count()
 }
 
-/// "each bit for which more than half of its γ checks fail is flipped [..] A tie keeps the bit."
+/// Card 2: "A bit is flipped when more than half of its own checks fail". "A tie keeps the bit."
 fn is_flipped(h: &Matrix, z: &[bool], j: usize) -> bool {
-    let failing = h
-        .checks_of(j)
-        .into_iter()
-        .filter(|&i| fails(h, z, i))
-        .count();
-    2 * failing > usize::from(h.gamma)
+    let own = h.checks_of(j);
+    let failing = own.iter().filter(|&&i| fails(h, z, i)).count();
+    2 * failing > own.len()
 }
 
 /// "7: [..] a received word not exactly its bytes, or a written buffer shorter than needed."

@@ -26,6 +26,20 @@ pub struct Session {
     pub gamma: u16,
 }
 
+impl Session {
+    /// A record that no call has made.
+    pub const EMPTY: Session = Session {
+        state: State::Empty,
+        bits: 0,
+        limit: 0,
+        k: 0,
+        n: 0,
+        m: 0,
+        rho: 0,
+        gamma: 0,
+    };
+}
+
 /// "Opening and each step answer with the record's state".
 fn state(outcome: Outcome) -> State {
     match outcome {

@@ -124,22 +124,10 @@ fn refusals_in_their_order() {
     assert_eq!(refused(&a, P6, &not_finite, 1, 7), (8, 3));
 }
 
-/// A record that no call has made.
-const EMPTY: Session = Session {
-    state: State::Empty,
-    bits: 0,
-    limit: 0,
-    k: 0,
-    n: 0,
-    m: 0,
-    rho: 0,
-    gamma: 0,
-};
-
 #[test]
 fn p6_in_single_rounds() {
     let a = code_a();
-    let mut record = EMPTY;
+    let mut record = Session::EMPTY;
     let (mut word, mut levels) = ([0xA5; 2], [99; 8]);
     let opened = open(&mut record, &a, &P6, &P6_SAMPLES, &mut word, &mut levels);
     assert_eq!(opened, Ok(answer(Outcome::Working, 0, 3, 0)));
@@ -176,7 +164,7 @@ fn p6_in_single_rounds() {
 #[test]
 fn p7_is_failed_at_opening() {
     let setting = Setting { limit: 0, ..P6 };
-    let mut record = EMPTY;
+    let mut record = Session::EMPTY;
     let (mut word, mut levels) = ([0], [0; 7]);
     let opened = open(
         &mut record,
