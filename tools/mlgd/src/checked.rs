@@ -57,6 +57,10 @@ fn sizes(file: &MatrixFile) -> Fault {
     .into_iter()
     .enumerate()
     {
+        if size == "gamma" && value == 0 && file.sizes[k].is_none() {
+            let nowhere = h.weights().iter().position(|&weight| weight == 0);
+            return weight(file, nowhere.unwrap_or(0));
+        }
         if !(least..=most).contains(&value) {
             let what = format!("{size} is {value}: the decoder takes {least} to {most} {what}");
             return at(file, file.sizes[k], what, "take another code");
@@ -64,7 +68,10 @@ fn sizes(file: &MatrixFile) -> Fault {
     }
     let ones = |a: u16, b: u16| u32::from(a) * u32::from(b);
     let (rows, columns) = (ones(h.m, h.rho), ones(h.n, h.gamma));
-    let what = format!("m × rho is {rows} and n × gamma is {columns}: both count the ones");
+    let what = format!(
+        "m × rho is {rows} and n × gamma is {columns}: the rows have too few ones for columns of \
+         gamma or more"
+    );
     at(file, file.sizes[0], what, "correct the sizes")
 }
 
@@ -96,25 +103,49 @@ fn entry(file: &MatrixFile, index: usize) -> Fault {
     )
 }
 
-/// Refusal 4: a column's weight is not gamma.
+/// Refusal 4: a column's weight is below gamma or above 32; with place n, no weight is gamma.
 fn weight(file: &MatrixFile, column: usize) -> Fault {
     let h = &file.matrix;
+    if column == usize::from(h.n) {
+        return none_least(file);
+    }
     let stands = |&index: &usize| usize::from(h.list[index]) == column;
     let found: Vec<usize> = (0..h.list.len()).filter(stands).collect();
-    let what = format!(
-        "column {} stands in {}, and gamma is {}",
-        column + file.first,
-        counted(found.len(), "row"),
-        h.gamma
-    );
-    let remedy = match (found.len(), file.first) {
-        (0, 0) => COUNTED_FROM_1,
-        _ => "each column stands in gamma rows",
-    };
     let place = found
         .last()
         .and_then(|&index| file.entries.get(index).copied());
+    let rows = counted(found.len(), "row");
+    let (why, remedy) = match found.len() {
+        0 => ("a column stands in 1 or more".into(), nowhere(file, column)),
+        33.. => ("a column stands in 32 at most".into(), "take another code"),
+        _ => (
+            format!("gamma is {}", h.gamma),
+            "gamma is the smallest column weight",
+        ),
+    };
+    let what = format!("column {} stands in {rows}, and {why}", column + file.first);
     at(file, place, what, remedy)
+}
+
+/// What to do about a column that stands nowhere.
+fn nowhere(file: &MatrixFile, column: usize) -> &'static str {
+    match (column, file.first, file.form) {
+        (0, 0, _) => COUNTED_FROM_1,
+        (_, _, Form::Dense) => "leave the column out",
+        _ => "is a column's number wrong? Else count on without it",
+    }
+}
+
+/// Refusal 4 with place n: every column weighs more than gamma.
+fn none_least(file: &MatrixFile) -> Fault {
+    let least = file.matrix.weights().into_iter().min().unwrap_or(0);
+    let rows = counted(least, "row");
+    let what = format!(
+        "every column stands in {rows} or more, and gamma is {}",
+        file.matrix.gamma
+    );
+    let remedy = format!("gamma is the smallest column weight: write {least}");
+    at(file, file.sizes[3], what, &remedy)
 }
 
 /// Refusal 5: two rows share two columns or more.

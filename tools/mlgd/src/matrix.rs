@@ -11,7 +11,8 @@ pub const USAGE: &str = "\
 mlgd matrix M [--to alist|list|rows] [--out FILE] [--from-one]
 
 Says n, m, rho, gamma and the guaranteed number t of a parity-check matrix, and whether the proved
-check accepts it. M is
+check accepts it. Rows have one weight, rho; columns may have unlike weights, and gamma is the
+smallest of them. M is
   an alist file (MacKay's, with or without zeros at the ends of lines),
   a list: n m rho gamma, then the columns of each row, counted from 0,
   bare rows: the columns of each row, counted from 0, or
@@ -32,6 +33,16 @@ const KNOWN: Known = Known {
     files: 1,
 };
 
+/// "h: n 155, m 93, rho 5, gamma 3, t 1: accepted (alist)", with the weights of unlike columns.
+fn verdict(file: &MatrixFile) -> String {
+    let unlike = match file.matrix.unlike_weights() {
+        Some((least, most)) => format!(", columns of {least} to {most} ones"),
+        None => String::new(),
+    };
+    let (summary, form) = (file.summary(), file.form.shown());
+    format!("{}: {summary}{unlike}: accepted ({form})", file.file)
+}
+
 pub fn run(words: &[String]) -> Result<Status, Fault> {
     if asks_help(words) {
         return print(USAGE).map(|()| Status::Done);
@@ -40,12 +51,7 @@ pub fn run(words: &[String]) -> Result<Status, Fault> {
     let name = arguments.needed_file("the matrix's file")?;
     let file = MatrixFile::open(name, arguments.flag("--from-one"))?;
     checked::matrix(&file)?;
-    let verdict = format!(
-        "{}: {}: accepted ({})",
-        file.file,
-        file.summary(),
-        file.form.shown()
-    );
+    let verdict = verdict(&file);
     let Some(to) = arguments.value("--to") else {
         print(&format!("{verdict}\n"))?;
         return Ok(Status::Done);

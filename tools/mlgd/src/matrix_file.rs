@@ -7,11 +7,10 @@ mod list;
 mod rows;
 mod write;
 
-use crate::amount::counted;
 use crate::fault::Fault;
 use crate::text::{Line, Text};
 
-/// Sizes and list, as the program reads them.
+/// Sizes and list, as the program reads them. Gamma is the smallest column weight.
 #[derive(Clone, Debug, PartialEq, Eq)]
 pub struct Matrix {
     pub n: u16,
@@ -30,6 +29,18 @@ impl Matrix {
     /// The bytes of a word.
     pub fn word_bytes(&self) -> usize {
         usize::from(self.n).div_ceil(8)
+    }
+
+    /// The weight of each column.
+    pub fn weights(&self) -> Vec<usize> {
+        weights(self.n.into(), &self.list)
+    }
+
+    /// The smallest and the largest column weight, if they differ.
+    pub fn unlike_weights(&self) -> Option<(usize, usize)> {
+        let weights = self.weights();
+        let (least, most) = (*weights.iter().min()?, *weights.iter().max()?);
+        (least < most).then_some((least, most))
     }
 
     /// The columns of each row.
@@ -171,8 +182,9 @@ fn form_of(text: &Text) -> Result<Form, Fault> {
     match head[..] {
         [_, _] if !(alike && ascends) => Ok(Form::Alist),
         [n, m, rho, gamma] => {
-            let counted =
-                m == text.lines.len() as u64 - 1 || m.checked_mul(rho) == n.checked_mul(gamma);
+            let (by_rows, by_columns) = (m.checked_mul(rho), n.checked_mul(gamma));
+            let enough = rho == first.len() as u64 && by_rows >= by_columns;
+            let counted = m == text.lines.len() as u64 - 1 || by_rows == by_columns || enough;
             let sizes = !ascends && (counted || !alike);
             Ok(if sizes { Form::List } else { Form::Rows })
         }
@@ -180,49 +192,22 @@ fn form_of(text: &Text) -> Result<Form, Fault> {
     }
 }
 
-/// The columns of all rows, with their places; `first` is what the file calls the first column.
-struct Ones<'a> {
-    list: &'a [u16],
-    entries: &'a [At],
-    first: usize,
+/// The gamma of these columns of n: the smallest weight.
+fn smallest_weight(text: &Text, n: usize, list: &[u16]) -> Result<u16, Fault> {
+    let smallest = weights(n, list).into_iter().min().unwrap_or(0);
+    let too_many = |_| text.at_end("there are too many rows".into(), "is this the right file?");
+    u16::try_from(smallest).map_err(too_many)
 }
 
-/// The gamma that the ones of all rows make, if the columns can have one weight.
-fn weight_of_columns(text: &Text, n: usize, ones: Ones) -> Result<u16, Fault> {
-    let gamma = ones.list.len() / n.max(1);
-    if ones.list.len() == gamma * n {
-        let too_many = || text.at_end("there are too many rows".into(), "is this the right file?");
-        return u16::try_from(gamma).map_err(|_| too_many());
-    }
+/// How often each of n columns stands in the list; columns that are not below n are left out.
+fn weights(n: usize, list: &[u16]) -> Vec<usize> {
     let mut weights = vec![0; n];
-    for &column in ones.list {
-        weights[usize::from(column)] += 1;
+    for &column in list {
+        if let Some(weight) = weights.get_mut(usize::from(column)) {
+            *weight += 1;
+        }
     }
-    Err(unlike_columns(text, &weights, ones))
-}
-
-/// Two columns of unlike weight, at the place where one of them stands last; a column without rows
-/// stands nowhere.
-fn unlike_columns(text: &Text, weights: &[usize], ones: Ones) -> Fault {
-    let unlike = |&weight: &usize| weight != weights[0];
-    let other = weights.iter().position(unlike).unwrap_or(0);
-    let what = format!(
-        "column {} stands in {} and column {} in {}: the decoder takes columns of one weight",
-        ones.first,
-        counted(weights[0], "row"),
-        other + ones.first,
-        weights[other]
-    );
-    let (odd, remedy) = match (weights[0], ones.first) {
-        (0, 0) => (0, COUNTED_FROM_1),
-        (0, _) => (0, "take a regular code"),
-        _ => (other, "take a regular code"),
-    };
-    let mut places = ones.list.iter().zip(ones.entries);
-    match places.rfind(|(&column, _)| usize::from(column) == odd) {
-        Some((_, &(line, field))) => text.place(line).at(field, what, remedy),
-        None => text.of_line(&text.lines[0], what, remedy),
-    }
+    weights
 }
 
 pub(crate) const COUNTED_FROM_1: &str = "counted from 1? Then give --from-one";
@@ -264,6 +249,24 @@ mod tests {
         );
     }
 
+    /// The same columns of 2, 1 and 1 ones in every form.
+    #[test]
+    fn unlike_columns_in_every_form() {
+        let fork = MatrixFile::of("h", "3 2 2 1\n0 1\n0 2\n").unwrap().matrix;
+        assert_eq!((fork.gamma, &fork.list[..]), (1, &[0, 1, 0, 2][..]));
+        for (contents, form) in [
+            ("3 2\n2 2\n2 1 1\n2 2\n1 2\n1\n2\n1 2\n1 3\n", Form::Alist),
+            ("3 2 2 1\n0 1\n0 2\n", Form::List),
+            ("0 1\n0 2\n", Form::Rows),
+            ("1 1 0\n1 0 1\n", Form::Dense),
+        ] {
+            let file = MatrixFile::of("h", contents).unwrap();
+            assert_eq!((file.form, &file.matrix), (form, &fork), "{contents}");
+        }
+        assert_eq!(fork.unlike_weights(), Some((1, 2)));
+        assert_eq!(triangle().unlike_weights(), None);
+    }
+
     /// Rows of four columns are no sizes, whatever stands first.
     #[test]
     fn rows_of_four() {
@@ -276,6 +279,10 @@ mod tests {
         assert_eq!(file.matrix.bare_rows(), rows);
         let file = MatrixFile::of("h", "8 2 4 1\n0 1 2 3\n4 5 6 7\n").unwrap();
         assert_eq!((file.form, file.matrix.m), (Form::List, 2));
+        // Unlike columns and a row too few: sizes all the same.
+        let short = MatrixFile::of("h", "10 3 4 1\n0 1 2 3\n0 4 5 6\n").unwrap_err();
+        let expected = "h:3: the list ends after 2 rows, and m is 3";
+        assert!(short.to_string().starts_with(expected), "{short}");
     }
 
     #[test]

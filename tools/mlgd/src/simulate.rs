@@ -151,12 +151,16 @@ fn write_rates(
     picture.finish()
 }
 
-/// `tanner155: n = 155, k = 64, row weight 5, column weight 3`.
+/// `tanner155: n = 155, k = 64, row weight 5, column weight 3`, or `column weights 3 to 6`.
 fn title(file: &str, channel: &Channel) -> String {
     let name = Path::new(file).file_stem().unwrap_or_default();
     let Matrix { n, rho, gamma, .. } = channel.matrix;
+    let columns = match channel.matrix.unlike_weights() {
+        Some((least, most)) => format!("column weights {least} to {most}"),
+        None => format!("column weight {gamma}"),
+    };
     format!(
-        "{}: n = {n}, k = {}, row weight {rho}, column weight {gamma}",
+        "{}: n = {n}, k = {}, row weight {rho}, {columns}",
         name.to_string_lossy(),
         channel.code.dimension()
     )

@@ -23,13 +23,11 @@ pub(super) fn read(text: &Text) -> Result<MatrixFile, Fault> {
     let [(n, n_at), (m, m_at)] = sizes[..] else {
         unreachable!("two numbers");
     };
-    let [(gamma, gamma_at), (rho, rho_at)] = largest[..] else {
-        unreachable!("two numbers");
-    };
-    alist.weights(n, largest[0], "column")?;
-    alist.weights(m, largest[1], "row")?;
-    alist.same_ones((n, n_at), m, rho, gamma)?;
-    let columns = alist.columns(n, m, gamma)?;
+    let weights = alist.weights(n, largest[0], "column")?;
+    let (rho, rho_at) = alist.one_weight(m, largest[1])?;
+    let (gamma, gamma_at) = *weights.iter().min().expect("n is not 0");
+    alist.same_ones(&weights, m, (rho, rho_at))?;
+    let columns = alist.columns(&weights, m)?;
     let (list, entries) = alist.rows(n, m, rho, &columns)?;
     if let Some(line) = alist.lines.next() {
         let what = format!("a line after {}", counted(m.into(), "row"));
@@ -92,53 +90,59 @@ impl<'a> Alist<'a> {
         Ok(numbers)
     }
 
-    /// The weights of all columns or all rows, which are to be the largest one given.
-    fn weights(&mut self, count: u16, most: Number, what: &str) -> Result<(), Fault> {
+    /// The weights of all columns or all rows, the heaviest of which is the one given.
+    fn weights(&mut self, count: u16, most: Number, what: &str) -> Result<Vec<Number>, Fault> {
         let weights = self.numbers(usize::from(count), &format!("the weights of the {what}s"))?;
-        let first = weights[0].0;
-        if let Some(at) = weights.iter().position(|weight| weight.0 != first) {
-            let (weight, (line, field)) = weights[at];
-            let said = format!(
-                "{what} {} has weight {weight} and {what} 1 has {first}: \
-                 the decoder takes {what}s of one weight",
-                at + 1
-            );
-            let place = self.text.place(line);
-            return Err(place.at(field, said, "take a regular code"));
-        }
-        if first != most.0 {
+        let heaviest = weights.iter().map(|weight| weight.0).max();
+        if heaviest != Some(most.0) {
             let (line, field) = most.1;
             let said = format!(
-                "the largest weight of a {what} is given as {}, and the {what}s have {first}",
-                most.0
+                "the largest weight of a {what} is given as {}, and the {what}s have {}",
+                most.0,
+                heaviest.unwrap_or(0)
             );
             let place = self.text.place(line);
             return Err(place.at(field, said, "correct one of them"));
         }
-        Ok(())
+        Ok(weights)
+    }
+
+    /// The weight of all rows, which is one.
+    fn one_weight(&mut self, m: u16, most: Number) -> Result<Number, Fault> {
+        let weights = self.weights(m, most, "row")?;
+        let first = weights[0].0;
+        if let Some(at) = weights.iter().position(|weight| weight.0 != first) {
+            let (weight, (line, field)) = weights[at];
+            let said = format!(
+                "row {} has weight {weight} and row 1 has {first}: \
+                 the decoder takes rows of one weight",
+                at + 1
+            );
+            let remedy = "take a code whose checks have equally many bits";
+            return Err(self.text.place(line).at(field, said, remedy));
+        }
+        Ok(most)
     }
 
     /// Columns and rows have the same ones.
-    fn same_ones(&self, (n, at): Number, m: u16, rho: u16, gamma: u16) -> Result<(), Fault> {
-        let by_columns = u32::from(n) * u32::from(gamma);
+    fn same_ones(&self, weights: &[Number], m: u16, (rho, at): Number) -> Result<(), Fault> {
+        let by_columns: u32 = weights.iter().map(|weight| u32::from(weight.0)).sum();
         let by_rows = u32::from(m) * u32::from(rho);
         if by_columns == by_rows {
             return Ok(());
         }
-        let what = format!(
-            "{} of weight {gamma} and {} of weight {rho}: {by_columns} ones by columns, \
-             {by_rows} by rows",
-            counted(n.into(), "column"),
-            counted(m.into(), "row")
-        );
+        let what = format!("the weights make {by_columns} ones by columns and {by_rows} by rows");
         let place = self.text.place(at.0);
         Err(place.at(at.1, what, "correct the sizes or the weights"))
     }
 
     /// The rows of each column.
-    fn columns(&mut self, n: u16, m: u16, gamma: u16) -> Result<Vec<Places>, Fault> {
-        let one = |j| self.places("column", j, gamma, "row", m, "is the file whole?");
-        (1..=usize::from(n)).map(one).collect()
+    fn columns(&mut self, weights: &[Number], m: u16) -> Result<Vec<Places>, Fault> {
+        let mut columns = Vec::with_capacity(weights.len());
+        for (j, &(weight, _)) in weights.iter().enumerate() {
+            columns.push(self.places("column", j + 1, weight, "row", m, "is the file whole?")?);
+        }
+        Ok(columns)
     }
 
     /// The columns of each row, which are to be those of the first half.
@@ -243,7 +247,12 @@ mod tests {
         (
             2,
             "2 3 2",
-            "h:3:2: column 2 has weight 3 and column 1 has 2: the decoder takes",
+            "h:2:1: the largest weight of a column is given as 2, and the columns have 3",
+        ),
+        (
+            2,
+            "2 1 2",
+            "h:2:2: the weights make 5 ones by columns and 6 by rows",
         ),
         (
             3,
@@ -277,8 +286,25 @@ mod tests {
         let longer = format!("{ALIST}1 2\n");
         assert!(fault(&longer).starts_with("h:11: a line after 3 rows"));
         let unlike = "3 2\n2 2\n2 2 2\n2 2\n";
-        let expected =
-            "h:1:1: 3 columns of weight 2 and 2 rows of weight 2: 6 ones by columns, 4 by rows";
+        let expected = "h:2:2: the weights make 6 ones by columns and 4 by rows";
         assert!(fault(unlike).starts_with(expected));
+    }
+
+    /// Columns of 2, 1 and 1 rows, the shorter ones with a zero at the end or without.
+    #[test]
+    fn unlike_columns() {
+        let padded = "3 2\n2 2\n2 1 1\n2 2\n1 2\n1 0\n2 0\n1 2\n1 3\n";
+        let bare = padded.replace(" 0\n", "\n");
+        for contents in [padded, &bare] {
+            let file = MatrixFile::of("h", contents).unwrap();
+            assert_eq!(file.summary(), "n 3, m 2, rho 2, gamma 1, t 0");
+            assert_eq!(file.matrix.list, [0, 1, 0, 2]);
+            assert_eq!(file.sizes[3], Some((3, 2)));
+            assert_eq!(file.matrix.alist().as_deref(), Some(padded));
+        }
+        let fault = |contents: &str| MatrixFile::of("h", contents).unwrap_err().to_string();
+        let filled = padded.replace("1 0\n", "1 2\n");
+        let expected = "h:6: column 2 has 2 rows, and its weight is 1";
+        assert!(fault(&filled).starts_with(expected));
     }
 }

@@ -1,6 +1,6 @@
 //! A matrix of zeros and ones, with or without blanks between them.
 
-use super::{weight_of_columns, At, Form, Matrix, MatrixFile, Ones};
+use super::{smallest_weight, At, Form, Matrix, MatrixFile};
 use crate::amount::counted;
 use crate::fault::Fault;
 use crate::text::{Line, Text};
@@ -13,12 +13,7 @@ pub(super) fn read(text: &Text) -> Result<MatrixFile, Fault> {
         return Err(text.at_end(what, "the decoder takes up to 1023 of each"));
     }
     let (list, entries) = rows(text, n)?;
-    let ones = Ones {
-        list: &list,
-        entries: &entries,
-        first: 1,
-    };
-    let gamma = weight_of_columns(text, n, ones)?;
+    let gamma = smallest_weight(text, n, &list)?;
     Ok(MatrixFile {
         file: text.file.clone(),
         form: Form::Dense,

@@ -1,6 +1,6 @@
 //! Bare rows: a line of columns for each row, sizes derived.
 
-use super::{weight_of_columns, At, Form, Matrix, MatrixFile, Ones};
+use super::{smallest_weight, At, Form, Matrix, MatrixFile};
 use crate::amount::counted;
 use crate::fault::Fault;
 use crate::text::{Line, Text};
@@ -12,12 +12,7 @@ pub(super) fn read(text: &Text, from_one: bool) -> Result<MatrixFile, Fault> {
     let n = largest.map_or(0, |(&column, _)| usize::from(column)) + 1;
     let n_at = largest.map(|(_, &at)| at);
     let m_at = read.entries.last().copied();
-    let ones = Ones {
-        list: &read.list,
-        entries: &read.entries,
-        first: read.first,
-    };
-    let gamma = weight_of_columns(text, n, ones)?;
+    let gamma = smallest_weight(text, n, &read.list)?;
     let matrix = Matrix {
         n: size(text, n, "n")?,
         m: size(text, text.lines.len(), "m")?,

@@ -19,21 +19,23 @@ impl Matrix {
         text
     }
 
-    /// The same as an alist file, if every column is below n and stands in gamma rows, and every
-    /// row has different columns.
+    /// The same as an alist file, if every column is below n, gamma is the smallest of their
+    /// weights and not 0, and every row has different columns. Lighter columns end with zeros.
     pub fn alist(&self) -> Option<String> {
         let columns = self.columns()?;
-        let (n, m) = (usize::from(self.n), usize::from(self.m));
-        let (rho, gamma) = (usize::from(self.rho), usize::from(self.gamma));
-        let right_weights = columns.iter().all(|rows| rows.len() == gamma);
-        if n == 0 || m == 0 || rho == 0 || self.list.len() != m * rho || !right_weights {
+        let (n, m, rho) = (columns.len(), usize::from(self.m), usize::from(self.rho));
+        let weights: Vec<usize> = columns.iter().map(Vec::len).collect();
+        let (least, most) = (*weights.iter().min()?, *weights.iter().max()?);
+        let right_weights = least > 0 && least == usize::from(self.gamma);
+        if m == 0 || rho == 0 || self.list.len() != m * rho || !right_weights {
             return None;
         }
-        let mut text = format!("{n} {m}\n{gamma} {rho}\n");
-        line(&mut text, std::iter::repeat_n(gamma, n));
+        let mut text = format!("{n} {m}\n{most} {rho}\n");
+        line(&mut text, weights.into_iter());
         line(&mut text, std::iter::repeat_n(rho, m));
         for rows in &columns {
-            line(&mut text, rows.iter().map(|i| i + 1));
+            let padding = std::iter::repeat_n(0, most - rows.len());
+            line(&mut text, rows.iter().map(|i| i + 1).chain(padding));
         }
         for row in self.rows() {
             line(&mut text, row.iter().map(|&c| usize::from(c) + 1));

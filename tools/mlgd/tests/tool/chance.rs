@@ -1,6 +1,6 @@
 //! Files changed by chance: each is read, or refused with a message, and nothing else happens.
 
-use generator::{alist, codes, Random};
+use generator::{alist, codes, unlike, Random};
 use mlgd::checked;
 use mlgd::lines::Lines;
 use mlgd::matrix_file::MatrixFile;
@@ -28,15 +28,12 @@ fn changed(text: &str, random: &mut Random) -> String {
 fn matrices() {
     let mut random = Random::new(81);
     let (mut accepted, mut refused) = (0, 0);
-    let code = codes::code_b();
-    let good = MatrixFile::of("h", &alist::text(&code)).unwrap().matrix;
     let dense = "111000000\n000111000\n000000111\n100100100\n010010010\n001001001\n";
-    let forms = [
-        alist::text(&code),
-        good.plain(),
-        good.bare_rows(),
-        dense.into(),
-    ];
+    let mut forms = vec![dense.to_string()];
+    for code in [codes::code_b(), unlike::code_u()] {
+        let good = MatrixFile::of("h", &alist::text(&code)).unwrap().matrix;
+        forms.extend([alist::text(&code), good.plain(), good.bare_rows()]);
+    }
     for _ in 0..4000 {
         let text = changed(random.pick(&forms).as_str(), &mut random);
         let verdict = MatrixFile::of("h", &text).and_then(|file| {

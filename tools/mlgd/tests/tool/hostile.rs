@@ -56,9 +56,14 @@ const SIZES: &[(&str, &str)] = &[
         "4294967295 4294967296\n",
         ":1:1: column: 4294967295 is above 65535",
     ),
+    ("0 65535\n1 2\n", ":2: n: 65536 is above 65535"),
     (
-        "0 65535\n1 2\n",
-        ":1: column 0 stands in 1 row and column 3 in 0",
+        "0 65534\n1 2\n",
+        ":1:2: n is 65535: the decoder takes 2 to 1023 columns",
+    ),
+    (
+        "0 1022\n1 2\n",
+        ":1: column 3 stands in 0 rows, and a column stands in 1 or more, is a column's",
     ),
     ("0 0\n0 0\n", ":1: rho is 0: the decoder takes 2 to 32"),
     ("", ":1: a matrix is missing"),

@@ -10,3 +10,4 @@ mod messages;
 mod pictures;
 mod round_trips;
 mod table;
+mod unlike;

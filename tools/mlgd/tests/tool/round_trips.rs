@@ -204,9 +204,17 @@ fn split_inputs() {
 /// The files in examples/ are packed to the bytes the generator makes of the same block set.
 #[test]
 fn the_examples_are_packed() {
-    let (matrix, samples, setting) = ("tanner155.alist", "blocks.csv", example::SETTING);
-    let mut words = vec!["pack", "--setting", setting];
-    words.extend(["--matrix", matrix, "--samples", samples]);
-    let ran = crate::common::ran(&crate::common::root().join("examples"), &words);
-    assert_eq!(ran.printed, example::input());
+    for (set, matrix, samples) in [
+        (example::of_tanner155(), "tanner155.alist", "blocks.csv"),
+        (
+            example::of_irregular504(),
+            "irregular504.alist",
+            "irregular504.csv",
+        ),
+    ] {
+        let mut words = vec!["pack", "--setting", example::SETTING];
+        words.extend(["--matrix", matrix, "--samples", samples]);
+        let ran = crate::common::ran(&crate::common::root().join("examples"), &words);
+        assert!(ran.printed == set.input(), "{matrix}");
+    }
 }

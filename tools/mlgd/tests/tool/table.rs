@@ -2,7 +2,7 @@
 
 use crate::common::{csv, program, Folder, SETTING};
 use generator::codes::{self, Code};
-use generator::{alist, inputs, settings, stream, Codewords, Random};
+use generator::{alist, inputs, settings, stream, unlike, Codewords, Random};
 use mlgd::results::{Outcome, Row, Table, COLUMNS};
 use reference::{hard_bit, level, pack, Setting};
 
@@ -155,7 +155,13 @@ fn a_file_with_every_outcome() {
 fn strong_wrong_samples_within_the_half() {
     let Some(program) = program() else { return };
     let mut random = Random::new(73);
-    for code in [codes::code_a(), codes::euclidean(3), codes::tanner155()] {
+    for code in [
+        codes::code_a(),
+        codes::euclidean(3),
+        codes::tanner155(),
+        unlike::irregular504(),
+        unlike::without_some_rows(&codes::projective(3), 7, 73),
+    ] {
         let folder = Folder::new(&format!("half-{}", code.matrix.n));
         let t = usize::from(code.matrix.gamma / 2);
         let codewords = Codewords::of(&code.matrix);
