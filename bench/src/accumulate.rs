@@ -1,6 +1,7 @@
 //! The accumulate form, as fast as plain Rust was found to go: parities are taken anew from the
 //! bits in each round, failing rows are listed without a branch and add 1 at their columns.
 
+use crate::optimised::{is_regular, weights};
 use crate::whole::{vectors, Rounds, WIDTH};
 use reference::Matrix;
 
@@ -49,38 +50,73 @@ pub(crate) unsafe fn add_votes<const RHO: usize>(
 
 /// R becomes R + E, cut to ±L, in the biased form; z is 1 where R is above 0.
 ///
-/// E is votes' doubles less gamma where z is 0, its negative where z is 1. One of the two parts,
-/// what is above gamma and what is below, is always 0, so no cut hides the other.
+/// E is votes' doubles less the weight where z is 0, its negative where z is 1. One of the two
+/// parts, what is above the weight and what is below, is always 0, so no cut hides the other.
+#[inline(always)]
+fn update_one(x: &mut u8, z: &mut u8, votes: u8, weight: u8, largest: u8) {
+    let doubled = votes + votes;
+    let above = doubled.saturating_sub(weight);
+    let below = weight.saturating_sub(doubled);
+    let ones = 0_u8.wrapping_sub(*z);
+    let up = (above & !ones) | (below & ones);
+    let down = (below & !ones) | (above & ones);
+    let raised = x.saturating_add(up).min(2 * largest);
+    *x = raised.saturating_sub(down);
+    *z = u8::from(*x > largest);
+}
+
+/// The column weights of a matrix: one number where they are alike.
+pub(crate) enum Weights {
+    Alike(u8),
+    Own(Box<[u8; WIDTH]>),
+}
+
+impl Weights {
+    /// # Safety
+    /// The check has accepted the matrix.
+    pub(crate) unsafe fn of(h: &Matrix) -> Weights {
+        match is_regular(h) {
+            true => Weights::Alike(h.gamma as u8),
+            false => Weights::Own(Box::new(weights(h))),
+        }
+    }
+}
+
+/// The same for all columns.
 #[inline(always)]
 pub(crate) fn update(
     x: &mut [u8; WIDTH],
     z: &mut [u8; WIDTH],
     votes: &[u8; WIDTH],
-    gamma: u8,
+    weights: &Weights,
     largest: u8,
     vectors: usize,
 ) {
-    for ((x, z), votes) in x[..vectors].iter_mut().zip(&mut z[..vectors]).zip(votes) {
-        let doubled = votes + votes;
-        let above = doubled.saturating_sub(gamma);
-        let below = gamma.saturating_sub(doubled);
-        let ones = 0_u8.wrapping_sub(*z);
-        let up = (above & !ones) | (below & ones);
-        let down = (below & !ones) | (above & ones);
-        let raised = x.saturating_add(up).min(2 * largest);
-        *x = raised.saturating_sub(down);
-        *z = u8::from(*x > largest);
+    let all = x[..vectors].iter_mut().zip(&mut z[..vectors]).zip(votes);
+    match weights {
+        Weights::Alike(gamma) => {
+            for ((x, z), votes) in all {
+                update_one(x, z, *votes, *gamma, largest);
+            }
+        }
+        Weights::Own(own) => {
+            for (((x, z), votes), weight) in all.zip(&own[..]) {
+                update_one(x, z, *votes, *weight, largest);
+            }
+        }
     }
 }
 
 pub struct Accumulate {
+    weights: Weights,
     votes: [u8; WIDTH],
     failing: [u16; WIDTH + 1],
 }
 
 impl Rounds for Accumulate {
-    fn of(_: &Matrix) -> Accumulate {
+    unsafe fn of(h: &Matrix) -> Accumulate {
         Accumulate {
+            weights: Weights::of(h),
             votes: [0; WIDTH],
             failing: [0; WIDTH + 1],
         }
@@ -95,7 +131,7 @@ impl Rounds for Accumulate {
         x: &mut [u8; WIDTH],
         z: &mut [u8; WIDTH],
     ) -> (u8, usize) {
-        let (list, gamma, vectors) = (&h.list[..], h.gamma as u8, vectors(h));
+        let (list, vectors) = (&h.list[..], vectors(h));
         let mut rounds = 0;
         loop {
             let failing = list_failing::<RHO>(list, z, &mut self.failing);
@@ -104,7 +140,7 @@ impl Rounds for Accumulate {
             }
             self.votes[..vectors].fill(0);
             add_votes::<RHO>(list, &self.failing[..failing], &mut self.votes);
-            update(x, z, &self.votes, gamma, largest, vectors);
+            update(x, z, &self.votes, &self.weights, largest, vectors);
             rounds += 1;
         }
     }

@@ -6,7 +6,9 @@
 //! In two layouts: `Bytes`, a byte a parity and the numbers of each column's rows, and `Bits`, in
 //! which a column's rows are bits too, so that a flip is a few exclusive-ors.
 
-use crate::accumulate::{add_votes, update};
+use crate::accumulate::{add_votes, update, Weights};
+use crate::index;
+use crate::optimised::is_regular;
 use crate::whole::{vectors, Rounds, WIDTH};
 use reference::Matrix;
 
@@ -16,7 +18,10 @@ type List = [u16; WIDTH];
 /// The parities of all rows, and what they were before the last flips.
 pub trait Parities {
     /// Of the word with no bit set.
-    fn of(h: &Matrix) -> Self;
+    ///
+    /// # Safety
+    /// The check has accepted the matrix.
+    unsafe fn of(h: &Matrix) -> Self;
 
     /// Back to that word.
     fn clear(&mut self);
@@ -89,6 +94,7 @@ unsafe fn take_votes<const RHO: usize>(list: &[u16], rows: &[u16], votes: &mut [
 
 pub struct Incremental<P> {
     parities: P,
+    weights: Weights,
     votes: [u8; WIDTH],
     /// The bits before the round.
     before: [u8; WIDTH],
@@ -114,9 +120,10 @@ impl<P: Parities> Incremental<P> {
 }
 
 impl<P: Parities> Rounds for Incremental<P> {
-    fn of(h: &Matrix) -> Incremental<P> {
+    unsafe fn of(h: &Matrix) -> Incremental<P> {
         Incremental {
             parities: P::of(h),
+            weights: Weights::of(h),
             votes: [0; WIDTH],
             before: [0; WIDTH],
             flips: [0; WIDTH],
@@ -134,7 +141,7 @@ impl<P: Parities> Rounds for Incremental<P> {
         x: &mut [u8; WIDTH],
         z: &mut [u8; WIDTH],
     ) -> (u8, usize) {
-        let (list, gamma, vectors) = (&h.list[..], h.gamma as u8, vectors(h));
+        let (list, vectors) = (&h.list[..], vectors(h));
         self.parities.clear();
         self.before[..vectors].fill(0);
         self.flip(z, vectors);
@@ -153,7 +160,7 @@ impl<P: Parities> Rounds for Incremental<P> {
             add_votes::<RHO>(list, &on[..adding], &mut self.votes);
             take_votes::<RHO>(list, &off[..taking], &mut self.votes);
             self.before[..vectors].copy_from_slice(&z[..vectors]);
-            update(x, z, &self.votes, gamma, largest, vectors);
+            update(x, z, &self.votes, &self.weights, largest, vectors);
             self.flip(z, vectors);
             rounds += 1;
         }
@@ -161,7 +168,7 @@ impl<P: Parities> Rounds for Incremental<P> {
 }
 
 pub struct Bytes {
-    /// Gamma for each column, ascending.
+    /// Gamma for each column, ascending; or of unlike columns where those of each begin, then they.
     rows_of: Vec<u16>,
     flip: unsafe fn(&[u16], &[u16], &mut [u8; WIDTH]),
     /// Rows, up to whole vectors.
@@ -180,28 +187,47 @@ unsafe fn flip_bytes<const GAMMA: usize>(rows_of: &[u16], columns: &[u16], now: 
     }
 }
 
-impl Parities for Bytes {
-    fn of(h: &Matrix) -> Bytes {
-        let (n, gamma) = (usize::from(h.n), usize::from(h.gamma));
-        let mut rows_of = vec![0; n * gamma];
-        let mut counts = vec![0; n];
-        for (i, row) in h.list.chunks_exact(usize::from(h.rho)).enumerate() {
-            for &column in row {
-                let column = usize::from(column);
-                rows_of[column * gamma + counts[column]] = i as u16;
-                counts[column] += 1;
-            }
+/// The same of unlike columns.
+unsafe fn flip_unlike(rows_of: &[u16], columns: &[u16], now: &mut [u8; WIDTH]) {
+    for &column in columns {
+        let from = usize::from(*rows_of.get_unchecked(usize::from(column)));
+        let to = usize::from(*rows_of.get_unchecked(usize::from(column) + 1));
+        for &row in rows_of.get_unchecked(from..to) {
+            *now.get_unchecked_mut(usize::from(row)) ^= 1;
         }
+    }
+}
+
+/// The rows of each column, as the function for the column weight reads them.
+///
+/// # Safety
+/// The check has accepted the matrix.
+unsafe fn rows_of_columns(h: &Matrix) -> Vec<u16> {
+    let places = usize::from(h.n) + 1;
+    let mut index = vec![0; places + h.list.len()];
+    index::build(h, &mut index);
+    if is_regular(h) {
+        return index.split_off(places);
+    }
+    index[..places]
+        .iter_mut()
+        .for_each(|start| *start += places as u16);
+    index
+}
+
+impl Parities for Bytes {
+    unsafe fn of(h: &Matrix) -> Bytes {
         macro_rules! for_each_weight {
             ($($weight:literal)*) => {
-                match gamma {
+                match h.gamma {
+                    _ if !is_regular(h) => flip_unlike,
                     $($weight => flip_bytes::<$weight>,)*
                     _ => unreachable!("the check has accepted the column weight"),
                 }
             };
         }
         Bytes {
-            rows_of,
+            rows_of: rows_of_columns(h),
             flip: for_each_weight!(1 2 3 4 5 6 7 8 9 10 11 12 13 14 15 16 17 18 19 20 21 22 23 24 25 26 27 28 29 30 31 32),
             vectors: usize::from(h.m).div_ceil(16) * 16,
             now: [0; WIDTH],
@@ -279,7 +305,7 @@ unsafe fn flip_bits<const W: usize>(rows_of: &[u64], columns: &[u16], now: &mut 
 }
 
 impl Parities for Bits {
-    fn of(h: &Matrix) -> Bits {
+    unsafe fn of(h: &Matrix) -> Bits {
         let words = usize::from(h.m).div_ceil(64).next_power_of_two();
         let mut rows_of = vec![0; usize::from(h.n) * words];
         for (i, row) in h.list.chunks_exact(usize::from(h.rho)).enumerate() {

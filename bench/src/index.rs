@@ -1,18 +1,46 @@
 //! The index of an accepted matrix, built and found to be the own one, in plain Rust: a cursor for
 //! each column, and the rows walked once.
 
+use crate::optimised::{is_regular, weights};
 use reference::Matrix;
 
 /// A cell for each column.
 const WIDTH: usize = 1024;
 
 /// Where the rows of each column begin: gamma ones in each one before it.
-fn starts(h: &Matrix) -> [u16; WIDTH] {
+fn regular_starts(h: &Matrix) -> [u16; WIDTH] {
     let mut starts = [0; WIDTH];
     for (j, start) in starts.iter_mut().enumerate() {
         *start = j as u16 * h.gamma;
     }
     starts
+}
+
+/// The same of unlike columns: their own ones in each one before it.
+///
+/// # Safety
+/// The check has accepted the matrix.
+#[inline(never)]
+unsafe fn unlike_starts(h: &Matrix) -> [u16; WIDTH] {
+    let mut starts = [0; WIDTH];
+    let mut sum = 0;
+    for (start, weight) in starts.iter_mut().zip(weights(h)) {
+        *start = sum;
+        sum += u16::from(weight);
+    }
+    starts
+}
+
+/// The same of either.
+///
+/// # Safety
+/// The check has accepted the matrix.
+#[inline(always)]
+unsafe fn starts(h: &Matrix) -> [u16; WIDTH] {
+    match is_regular(h) {
+        true => regular_starts(h),
+        false => unlike_starts(h),
+    }
 }
 
 /// Builds the index.
@@ -68,12 +96,19 @@ pub unsafe fn is_own_plain(h: &Matrix, index: &[u16]) -> bool {
         return false;
     }
     let mut cursors = [0; WIDTH];
-    for j in 0..places {
-        let start = j as u16 * h.gamma;
-        if *index.get_unchecked(j) != start {
+    if is_regular(h) {
+        for j in 0..places {
+            let start = j as u16 * h.gamma;
+            if *index.get_unchecked(j) != start {
+                return false;
+            }
+            *cursors.get_unchecked_mut(j) = start;
+        }
+    } else {
+        cursors = unlike_starts(h);
+        if index[..places] != cursors[..places] {
             return false;
         }
-        *cursors.get_unchecked_mut(j) = start;
     }
     let rows = index.get_unchecked(places..);
     for (i, row) in h.list.chunks_exact(usize::from(h.rho)).enumerate() {

@@ -296,8 +296,10 @@ pub fn measure(turns: usize) {
          replay) or written. Branchless replay: no branch within a row, the differences ORed and looked at \
          after it. Plain replay: with the branch, as C has it. The forms of each part take turns, the four \
          replays on the same matrix and index, and the best of {turns} turns of each counts; a turn is the \
-         mean of as many calls as take a millisecond. Literal: all rows searched for each column and the \
-         lists compared, the best of {LITERAL_TURNS}."
+         mean of as many calls as take a millisecond. Of unlike columns (Irregular1000) the forms in C \
+         and Rust count the weights first, as the starting places are their sums; the library's replay \
+         takes the lent ones and sees at the end whether they were right. Literal: all rows searched for each \
+         column and the lists compared, the best of {LITERAL_TURNS}."
     );
     println!();
     println!("| code | verifying / C replay | verifying / branchless replay | verifying / plain replay | building / Rust | literal / branchless replay | verifying µs | C replay µs | branchless replay µs | plain replay µs | building µs | Rust µs | literal µs |");

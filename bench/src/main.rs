@@ -10,7 +10,7 @@ mod programs;
 use bench::clock::cpu_microseconds;
 use bench::optimised;
 use ffi_face::{LentMatrix, Packed};
-use generator::codes::{self, Code};
+use generator::codes::Code;
 use generator::{patterns, Codewords, Random};
 use reference::{byte_count, pack};
 use std::hint::black_box;
@@ -211,12 +211,14 @@ fn main() {
         "Matrix check and one-step voting, CPU time of a call. Library and optimised form take turns, \
          and the best of {turns} turns of each counts; a turn is the mean of one call (one-step \
          voting: of {WORDS}, on as many words), or of as many times that as take a millisecond. \
-         Literal form: the best of {LITERAL_TURNS} turns, of one call or of a millisecond."
+         Literal form: the best of {LITERAL_TURNS} turns, of one call or of a millisecond. \
+         Irregular1000 is a (1000, 501) code of unlike columns: 500 rows of weight 12, columns of \
+         weight 4 (600), 8 (200) and 10 (200)."
     );
     println!();
     println!("| code | part | library / optimised | literal / optimised | library µs | optimised µs | literal µs |");
     println!("|---|---|---|---|---|---|---|");
-    for code in [codes::eg1023(), codes::qc961(), codes::tanner155()] {
+    for (code, _, _) in programs::cases() {
         measure_check(&code, turns);
         measure_one_step(&code, turns);
     }

@@ -10,7 +10,7 @@ pub fn check(h: &Matrix) -> Result<(), Refusal> {
         && (1..=1023).contains(&m)
         && (2..=32).contains(&rho)
         && (1..=32).contains(&gamma);
-    if !in_range || m * rho != n * gamma {
+    if !in_range || m * rho < n * gamma {
         return Err(Refusal::plain(1));
     }
     if h.list.len() != m * rho {
@@ -20,21 +20,56 @@ pub fn check(h: &Matrix) -> Result<(), Refusal> {
     if !rows_ascend(h, &mut weights) {
         return literal_check(h);
     }
-    if let Some(j) = weights[..n].iter().position(|&w| w != h.gamma) {
-        return Err(Refusal::at(4, j));
-    }
+    weights_fit(h, &weights[..n])?;
     let meetings = match (m, n) {
         (..=128, ..=256) => Met::<2, 256>::meetings(h),
         (..=128, _) => Met::<2, 1024>::meetings(h),
         (..=512, _) => Met::<8, 1024>::meetings(h),
         _ => Met::<16, 1024>::meetings(h),
     };
-    // In each column every two of its gamma rows meet. If the pairs of rows that meet are as many
-    // as that, none meets twice.
-    if meetings != (n * gamma * (gamma - 1) / 2) as u64 {
+    // In each column every two of its rows meet. If the pairs of rows that meet are as many as that,
+    // none meets twice.
+    let pairs = |weight: usize| weight * (weight - 1) / 2;
+    let all = match is_regular(h) {
+        true => n * pairs(gamma),
+        false => weights[..n].iter().map(|&w| pairs(w.into())).sum(),
+    };
+    if meetings != all as u64 {
         return literal_check(h);
     }
     Ok(())
+}
+
+/// Whether all columns of an accepted matrix weigh gamma: the ones are just enough for that.
+pub fn is_regular(h: &Matrix) -> bool {
+    u32::from(h.m) * u32::from(h.rho) == u32::from(h.n) * u32::from(h.gamma)
+}
+
+/// Refusal 4.
+fn weights_fit(h: &Matrix, weights: &[u16]) -> Result<(), Refusal> {
+    if is_regular(h) && !weights.iter().any(|&w| w != h.gamma) {
+        return Ok(());
+    }
+    if let Some(j) = weights.iter().position(|&w| w < h.gamma || w > 32) {
+        return Err(Refusal::at(4, j));
+    }
+    if !weights.contains(&h.gamma) {
+        return Err(Refusal::at(4, h.n.into()));
+    }
+    Ok(())
+}
+
+/// How often each column stands in the list.
+///
+/// # Safety
+/// The check has accepted the matrix.
+#[inline(always)]
+pub(crate) unsafe fn weights(h: &Matrix) -> [u8; 1024] {
+    let mut weights = [0; 1024];
+    for &c in &h.list {
+        *weights.get_unchecked_mut(usize::from(c)) += 1;
+    }
+    weights
 }
 
 /// Whether every row ascends strictly and stays below n; counts the columns on the way.
@@ -202,11 +237,19 @@ unsafe fn vote(
                 *votes.get_unchecked_mut(usize::from(c)) += 1;
             }
         }
-        let half = (h.gamma / 2) as u8;
-        for (bit, votes) in bits[..n].iter_mut().zip(&votes) {
-            let flip = u8::from(*votes > half);
+        let flip = |bit: &mut u8, votes: u8, half: u8| {
+            let flip = u8::from(votes > half);
             *bit ^= flip;
-            changed += usize::from(flip);
+            usize::from(flip)
+        };
+        let bits_and_votes = bits[..n].iter_mut().zip(&votes);
+        if is_regular(h) {
+            let half = (h.gamma / 2) as u8;
+            bits_and_votes.for_each(|(bit, votes)| changed += flip(bit, *votes, half));
+        } else {
+            let own = weights(h);
+            let all = bits_and_votes.zip(&own);
+            all.for_each(|((bit, votes), own)| changed += flip(bit, *votes, own / 2));
         }
         rounds = 1;
         failing = 0;

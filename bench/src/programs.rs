@@ -7,7 +7,7 @@
 
 use bench::clock::children_microseconds;
 use generator::codes::{self, Code};
-use generator::{noise, settings, stream, Codewords, Random};
+use generator::{noise, settings, stream, unlike, Codewords, Random};
 use std::fs::{self, File};
 use std::path::{Path, PathBuf};
 use std::process::{Command, Stdio};
@@ -20,11 +20,12 @@ const LITERAL_BLOCKS: usize = 5;
 const LITERAL_RUNS: usize = 8;
 
 /// A code with the step and the noise at which about five rounds are needed.
-pub fn cases() -> [(Code, f32, f64); 3] {
+pub fn cases() -> [(Code, f32, f64); 4] {
     [
         (codes::eg1023(), 0.015, 0.51),
         (codes::qc961(), 0.025, 0.535),
         (codes::tanner155(), 0.1, 0.585),
+        (unlike::irregular1000(), 0.1, 0.54),
     ]
 }
 

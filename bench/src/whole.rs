@@ -119,7 +119,9 @@ impl Quantiser {
 
 /// The rounds of a block, and what they keep for all blocks of a matrix.
 pub trait Rounds {
-    fn of(h: &Matrix) -> Self;
+    /// # Safety
+    /// The check has accepted the matrix.
+    unsafe fn of(h: &Matrix) -> Self;
 
     /// From the first test on, in place of levels (as R + L) and hard bits; gives the rounds done
     /// and the failing checks. Places beyond n are 0 and stay so.
@@ -211,7 +213,8 @@ impl Run {
             z: [0; WIDTH],
             hard: [0; WIDTH],
         };
-        let mut rounds = R::of(&self.h);
+        // SAFETY: the check has accepted the matrix.
+        let mut rounds = unsafe { R::of(&self.h) };
         let bytes = 4 * usize::from(self.h.n);
         for number in 0..MOST_BLOCKS {
             match source.fill(bytes) {
