@@ -1,5 +1,5 @@
 // Numbers and single-format floats that stand in bytes, low byte first.
-// Rests on `counting`. Document 01: "Worked by hand", the paragraph on the program.
+// Rests on `counting`. Document 01: "Worked by hand", the paragraph on the program. Document 02: card 3.
 ghost use Prim.Native.Nat.{_+_, _/_, _≤_, _<_};
 ghost use mathlib.Core.Path.{_≡_};
 ghost use lib.Ieee.{binary32, ofBits};

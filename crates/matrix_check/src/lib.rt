@@ -25,7 +25,7 @@ fn in_range(lo: u16, x: u16, hi: u16) -> bool
 }
 
 // Whether the sizes are in range and go together. Every test is made: the products fit a usize whatever the sizes are.
-fn sizes_fit(shape: Shape) -> bool
+pub fn sizes_fit(shape: Shape) -> bool
     ensures { λ r. ⌜ r ≡ sizesFit (matrixOf shape []) ⌝ }
 {
     let ones_by_row = shape.m as usize * shape.rho as usize;

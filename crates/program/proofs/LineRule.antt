@@ -2,9 +2,9 @@
 --   line-rule    == the line of a block near a codeword tells that codeword, where the round limit leaves the rounds for it
 --   ample-line   == a limit of L / 2 + 1 leaves them
 -- Assumes nothing.
-use mathlib.Core.Path.{_≡_, sym, ap, ap₂, _∙_}
+use mathlib.Core.Path.{_≡_, sym, ap₂, _∙_}
 use mathlib.Core.List.{List}
-use Prim.Native.Nat.{ℕ, _*_, _≤_}
+use Prim.Native.Nat.{ℕ, _≤_}
 use native.Mathlib.Omega.{arith}
 use lib.IntN.{ℤ, pos}
 use lib.Ieee.{Float}
@@ -19,14 +19,15 @@ use Rattle.matrix.specs.Paper.Code.{Matrix}
 use Rattle.matrix.proofs.PlainCheck.{is-accepted}
 use Rattle.quantiser_levels.specs.Paper.Samples.{Setting, largest}
 use Rattle.iterative_core.specs.Paper.Iterative.{endFrom, samplesVerdict, iterativeVerdict, iterativeWord}
-use Rattle.iterative_rule.specs.Paper.Claims.{wrongBits, roundsFor, SamplesWithinHalf, Recovered}
+use Rattle.iterative_rule.specs.Paper.Claims.{wrongBits, roundsFor, SamplesWithinHalf}
 use Rattle.iterative_rule.proofs.FlippingRule.{iterative-rule}
 use Rattle.iterative_rule.proofs.Ends.{rounds-most}
 use Rattle.byte_numbers.specs.Paper.Numbers.{samplesIn}
 use Rattle.program_text.specs.Paper.Output.{blockText}
 use Rattle.program_input.specs.Paper.Opening.{Decodable}
 use Rattle.program_block.specs.Paper.Block.{blockVerdict, blockSaid, blockLine}
-use Rattle.program_block.proofs.Answers.{samples-n, block-is-call}
+use Rattle.quantiser_bytes.proofs.Blocks.{samples-n}
+use Rattle.program_block.proofs.Answers.{block-is-call}
 use Rattle.program.specs.Paper.LineRule.{LineRule, AmpleLine}
 
 -- buffers of just the length that a call needs

@@ -10,7 +10,6 @@
 --   setting-short, setting-whole            == the reply to the setting
 --   reply                                   == a reply by its text and what is awaited next
 --   blocks-last, blocks-more                == what is awaited after blocks
---   entries-front                           == the list at the front of the array
 --   index-front                             == the index at the front of its array
 --   opened-reply                            == a run that begins, by what was found
 --   opened-index                            == and the array of the index
@@ -20,14 +19,13 @@
 use mathlib.Core.Path.{_≡_, sym, ap, _∙_}
 use mathlib.Core.Bool.{true, false}
 use mathlib.Core.List.{List, []}
-use Prim.Native.Nat.{ℕ, suc, _+_, _*_, _/_, _≤_, _<_}
+use Prim.Native.Nat.{ℕ, suc, _+_, _*_, _≤_, _<_}
 use native.Mathlib.Nat.{suc-mul, div-lt-iff-lt-mul}
 use native.Mathlib.Omega.{arith}
 use borrow.Author.Tests.{lt-ltb, le-ltb}
 use lib.ListN.{length, take, drop}
 use Rattle.counting.specs.Paper.Lists.{over}
-use Rattle.counting.proofs.Writes.{take-over, length-listed}
-use Rattle.byte_numbers.specs.Paper.Numbers.{entryIn, entriesIn}
+use Rattle.byte_numbers.specs.Paper.Numbers.{entriesIn}
 use Rattle.matrix.specs.Paper.Code.{Matrix}
 use Rattle.matrix.specs.Paper.Check.{sizesFit}
 use Rattle.matrix_index.specs.Paper.Index.{indexOf, indexSize}
@@ -131,14 +129,6 @@ module _ (H : Matrix) (S : Setting) (i : ℕ) (bs : List ℕ) where
   blocks-more h = rw (le-ltb (length bs) (bytesAtOnce (H .n) i) h)
 
 -- ---- what is read
-
--- the list at the front of the array
-pub entries-front : (k : ℕ) (bs old : List ℕ) {new : List ℕ} → new ≡ over (entriesIn bs) old → length bs ≡ 2 * k → take k new ≡ entriesIn bs
-unfolding entriesIn
-entries-front k bs old e h =
-    let half : length bs / 2 ≡ k = omega arith in
-    let long : length (entriesIn bs) ≡ k = length-listed (length bs / 2) (entryIn bs) ∙ half in
-    ap (take k) e ∙ ap (λ (x : ℕ). take x (over (entriesIn bs) old)) (sym long) ∙ take-over (entriesIn bs) old
 
 -- the index at the front of its array
 pub index-front : (H : Matrix) (x : List ℕ) → take (indexSize H) x ≡ indexOf H → take (H .n + 1 + H .m * H .rho) x ≡ indexOf H

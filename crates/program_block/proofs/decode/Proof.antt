@@ -5,7 +5,8 @@ use lib.ListN.{length}
 use Rattle.matrix.specs.Paper.Shapes.{matrixOf}
 use Rattle.quantiser_levels.specs.Paper.Samples.{firstNotFinite}
 use Rattle.quantiser_settings.specs.Paper.Settings.{settingOf}
-use Rattle.program_block.proofs.Answers.{samples-n, block-refuses, block-passes, all-finite, all-written, answered-refused, answered}
+use Rattle.quantiser_bytes.proofs.Blocks.{samples-n, all-finite, all-written}
+use Rattle.program_block.proofs.Answers.{block-refuses, block-passes, answered-refused, answered}
 use Rattle.program_block.proofs.decode.Statement.{statement}
 use Rattle.program_block.proofs.decode.Tie as tie
 

@@ -7,7 +7,8 @@ use lib.ListN.{length}
 use Rattle.matrix.specs.Paper.Shapes.{matrixOf}
 use Rattle.program_input.proofs.Openings.{few}
 use Rattle.program_ends.specs.Stages.{theSetting, ends}
-use Rattle.program_ends.proofs.Replies.{text-alone, replied-as, replied-over, list-short, list-whole, kept-short, written-whole, entries-front}
+use Rattle.program_ends.proofs.Replies.{text-alone, replied-as, replied-over, list-short, list-whole, kept-short, written-whole}
+use Rattle.byte_numbers.proofs.Lists.{entries-front}
 use borrow.Author.Needs.{needs}
 use Rattle.program_ends.proofs.after_list.Statement.{statement}
 use Rattle.program_ends.proofs.after_list.Tie as tie
@@ -58,7 +59,7 @@ returns-2 c =
         reply = replied-as (list-whole H bs (omega arith))
             (record {
               awaited = ap (λ (l : List _). theSetting (matrixOf (s .args .shape) l))
-                  (entries-front (H .m * H .rho) bs (s .args .list .now) (c .before .before .entries2 .ensures) whole);
+                  (entries-front (H .m * H .rho) bs (s .args .list .now) (c .before .before .entries2 .ensures) (omega arith));
               want = refl;
               text = refl;
               fits = omega arith;

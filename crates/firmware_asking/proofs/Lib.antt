@@ -1,0 +1,2 @@
+pub mod Settings
+pub mod Questions

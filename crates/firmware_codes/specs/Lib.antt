@@ -1,0 +1,2 @@
+-- What the contracts of `firmware_codes` cite.
+pub mod Paper

@@ -1,0 +1,3 @@
+-- What a reader must believe: document 02's definitions and the statements of the theorems.
+pub mod Codes
+pub mod Claims

@@ -1,0 +1,3 @@
+-- What the contracts of `firmware_decoding` cite.
+pub mod Paper
+pub mod Parts
