@@ -4,9 +4,12 @@
 //! FUZZ_N multiplies the number of random cases, FUZZ_SEED chooses others.
 
 pub mod causes;
+#[cfg(feature = "firmware")]
+pub mod firmware;
 mod guarded;
 #[cfg(feature = "index")]
 mod indexed;
+pub mod rule;
 #[cfg(feature = "samples")]
 mod samples;
 #[cfg(feature = "session")]

@@ -2,222 +2,43 @@
 //! gamma / 2 places come back to it within a known number of rounds, however strong the wrong
 //! samples and however weak the right ones. The reference's opinion is asked as well.
 
+use differential::rule::{all_settings, enough, some_setting, with_limit, Change, Source, WORST};
 use differential::{cases, random, Lent, Subject, WORKING};
 use ffi_face::Packed;
 use generator::codes::{self, Code};
-use generator::{patterns, settings, unlike, Codewords, Random};
-use reference::{hard_bit, largest_level, level, pack, Setting};
+use generator::{patterns, settings, unlike, Random};
+use reference::{largest_level, level, pack, Setting};
 
 const FAILED: u64 = 1;
-
-/// A limit that is enough for every code and every number of wrong bits: L / 2 + 1.
-fn enough(bits: u16) -> usize {
-    largest_level(bits) as usize / 2 + 1
-}
 
 fn rounds(answer: Packed) -> usize {
     (answer.0 >> 32) as usize % 256
 }
 
-fn with_limit(setting: &Setting, limit: usize) -> Setting {
-    Setting {
-        limit: limit as u16,
-        ..*setting
-    }
-}
-
-/// A setting with any step. Its limit is chosen with the block.
-fn some_setting(bits: u16, kind: u16, random: &mut Random) -> Setting {
-    let step = settings::some_step(random);
-    Setting {
-        kind,
-        ..settings::level_step(bits, 0, step)
-    }
-}
-
-/// Every width with both kinds of step.
-fn all_settings(random: &mut Random) -> Vec<Setting> {
-    (2..=8)
-        .flat_map(|bits| [0, 1].map(|kind| some_setting(bits, kind, random)))
-        .collect()
-}
-
-/// A sample with this hard bit and a level of this magnitude.
-fn sample(setting: &Setting, bit: bool, magnitude: i32, random: &mut Random) -> f32 {
-    let largest = largest_level(setting.bits);
-    let unit = match setting.kind {
-        0 => setting.step,
-        _ => setting.step / largest as f32,
-    };
-    let size = match magnitude {
-        0 if !bit && random.once_in(2) => *random.pick(&[0.0, -0.0]),
-        0 => *random.pick(&[f32::from_bits(1), unit / 4.0, (unit / 2.0).next_down()]),
-        _ if magnitude == largest && random.once_in(2) => f32::MAX,
-        _ => (magnitude as f32 + 0.8 * random.unit() as f32 - 0.4) * unit,
-    };
-    let (sample, signed) = match bit {
-        true => (size, magnitude),
-        false => (-size, -magnitude),
-    };
-    let made = (hard_bit(sample), level(setting, sample));
-    assert_eq!(made, (bit, signed), "{sample:e}, {setting:?}");
-    sample
-}
-
-/// How strong a sample is: its level is the least that the rule allows, the largest, or any.
-#[derive(Clone, Copy)]
-enum Strength {
-    Least,
-    Most,
-    Any,
-}
-
-impl Strength {
-    fn magnitude(self, least: i32, largest: i32, random: &mut Random) -> i32 {
-        match self {
-            Strength::Least => least,
-            Strength::Most => largest,
-            Strength::Any => least + random.below((largest - least) as usize + 1) as i32,
-        }
-    }
-}
-
-/// The strength of the wrong samples and that of the right ones.
-type Strengths = (Strength, Strength);
-
-const WORST: Strengths = (Strength::Most, Strength::Least);
-
-const STRENGTHS: [Strengths; 4] = [
-    WORST,
-    (Strength::Most, Strength::Any),
-    (Strength::Any, Strength::Least),
-    (Strength::Any, Strength::Any),
-];
-
-/// A code with its codewords.
+/// A code as a source of blocks, and as both sides see it.
 struct Tried {
-    code: Code,
+    source: Source,
     subject: Subject,
-    codewords: Codewords,
 }
 
 impl Tried {
     fn new(code: Code, random: &mut Random) -> Tried {
         Tried {
             subject: Subject::new(&code.matrix, random),
-            codewords: Codewords::of(&code.matrix),
-            code,
+            source: Source::new(code),
         }
-    }
-
-    fn n(&self) -> usize {
-        usize::from(self.code.matrix.n)
-    }
-
-    fn half(&self) -> usize {
-        usize::from(self.code.matrix.gamma / 2)
-    }
-
-    fn change(&self, sent: Vec<bool>, wrong: Vec<usize>) -> Change<'_> {
-        let tried = self;
-        Change { tried, sent, wrong }
-    }
-
-    /// So many wrong places, by chance and those that come nearest to a wrong vote, each time of
-    /// another codeword.
-    fn changes(&self, size: usize, random: &mut Random) -> Vec<Change<'_>> {
-        let mut patterns = patterns::against_one_bit(&self.code, size, random);
-        patterns.push(random.different(size, self.n()));
-        let change = |wrong| self.change(self.codewords.random(random), wrong);
-        patterns.into_iter().map(change).collect()
-    }
-
-    /// Blocks with every number of wrong places and every strength.
-    fn blocks(&self, setting: &Setting, random: &mut Random) -> Vec<(Change<'_>, Vec<f32>)> {
-        let mut blocks = Vec::new();
-        for size in 0..=self.half() {
-            for strengths in STRENGTHS {
-                for change in self.changes(size, random) {
-                    let samples = change.of(setting, strengths, random);
-                    blocks.push((change, samples));
-                }
-            }
-        }
-        blocks
-    }
-
-    /// One block by chance, most often with half of gamma wrong or with the worst strength.
-    fn some_block(&self, setting: &Setting, random: &mut Random) -> (Change<'_>, Vec<f32>) {
-        let size = random.below(2 * self.half() + 1).min(self.half());
-        let mut changes = self.changes(size, random);
-        let change = changes.swap_remove(random.below(changes.len()));
-        let strengths = match random.below(2) {
-            0 => WORST,
-            _ => *random.pick(&STRENGTHS),
-        };
-        let samples = change.of(setting, strengths, random);
-        (change, samples)
-    }
-}
-
-/// A codeword, and the places at which the hard bits differ from it.
-struct Change<'a> {
-    tried: &'a Tried,
-    sent: Vec<bool>,
-    wrong: Vec<usize>,
-}
-
-impl Change<'_> {
-    fn gamma(&self) -> usize {
-        usize::from(self.tried.code.matrix.gamma)
-    }
-
-    /// The rounds after which all bits are right at the latest: L / delta + 1, delta being what
-    /// a round moves the level of a wrong bit by at least.
-    fn bound(&self, bits: u16) -> usize {
-        let delta = self.gamma() - 2 * self.wrong.len() + 2;
-        match self.wrong.len() {
-            0 => 0,
-            _ => largest_level(bits) as usize / delta + 1,
-        }
-    }
-
-    /// The least magnitude of each level that the rule allows: if half of gamma is wrong, a right
-    /// 1 has a level other than 0.
-    fn least(&self) -> Vec<i32> {
-        let tie = 2 * self.wrong.len() == self.gamma();
-        let right_one = |j: usize| self.sent[j] && !self.wrong.contains(&j);
-        let places = 0..self.sent.len();
-        places.map(|j| i32::from(tie && right_one(j))).collect()
-    }
-
-    /// Samples with levels of these magnitudes.
-    fn samples(&self, setting: &Setting, magnitudes: &[i32], random: &mut Random) -> Vec<f32> {
-        patterns::flipped(&self.sent, &self.wrong)
-            .into_iter()
-            .zip(magnitudes)
-            .map(|(bit, &magnitude)| sample(setting, bit, magnitude, random))
-            .collect()
-    }
-
-    /// Samples of these strengths.
-    fn of(&self, setting: &Setting, strengths: Strengths, random: &mut Random) -> Vec<f32> {
-        let (of_wrong, of_right) = strengths;
-        let largest = largest_level(setting.bits);
-        let mut magnitudes = self.least();
-        for (j, magnitude) in magnitudes.iter_mut().enumerate() {
-            let strength = match self.wrong.contains(&j) {
-                true => of_wrong,
-                false => of_right,
-            };
-            *magnitude = strength.magnitude(*magnitude, largest, random);
-        }
-        self.samples(setting, &magnitudes, random)
     }
 
     /// What the rule says of an answer and of the word left with it. Gives the rounds.
-    fn obeyed(&self, setting: &Setting, samples: &[f32], answer: Packed, word: &[u8]) -> usize {
-        let (sent, wrong, name) = (pack(&self.sent), &self.wrong, &self.tried.code.name);
+    fn obeyed(
+        &self,
+        change: &Change,
+        setting: &Setting,
+        samples: &[f32],
+        answer: Packed,
+        word: &[u8],
+    ) -> usize {
+        let (sent, wrong, name) = (pack(&change.sent), &change.wrong, &self.source.code.name);
         let call = || {
             format!(
                 "{answer:?}, {name}, sent {sent:02x?}, wrong {wrong:?}, {setting:?}, {samples:?}"
@@ -226,7 +47,7 @@ impl Change<'_> {
         let rounds = rounds(answer);
         let expected = Packed::new(0, rounds, 0, wrong.len());
         assert_eq!(answer, expected, "{}", call());
-        assert!(rounds <= self.bound(setting.bits), "{}", call());
+        assert!(rounds <= change.bound(setting.bits), "{}", call());
         assert_eq!(rounds == 0, wrong.is_empty(), "{}", call());
         assert_eq!(word[..sent.len()], sent, "{}", call());
         rounds
@@ -235,26 +56,39 @@ impl Change<'_> {
     /// The rule for the whole call with this limit. Gives the rounds.
     fn comes_back(
         &self,
+        change: &Change,
         setting: &Setting,
         limit: usize,
         samples: &[f32],
         random: &mut Random,
     ) -> usize {
-        assert!(self.bound(setting.bits) <= limit);
+        assert!(change.bound(setting.bits) <= limit);
         let setting = with_limit(setting, limit);
-        let left = self.tried.subject.block(&setting, samples, random);
-        self.obeyed(&setting, samples, left.answer, &left.word)
+        let left = self.subject.block(&setting, samples, random);
+        self.obeyed(change, &setting, samples, left.answer, &left.word)
     }
 
     /// The same with no round to spare.
-    fn comes_back_in_time(&self, setting: &Setting, samples: &[f32], random: &mut Random) -> usize {
-        self.comes_back(setting, self.bound(setting.bits), samples, random)
+    fn comes_back_in_time(
+        &self,
+        change: &Change,
+        setting: &Setting,
+        samples: &[f32],
+        random: &mut Random,
+    ) -> usize {
+        self.comes_back(change, setting, change.bound(setting.bits), samples, random)
     }
 
     /// The same for an opening and its steps.
-    fn steps_back_in_time(&self, setting: &Setting, samples: &[f32], random: &mut Random) -> usize {
-        let subject = &self.tried.subject;
-        let setting = with_limit(setting, self.bound(setting.bits));
+    fn steps_back_in_time(
+        &self,
+        change: &Change,
+        setting: &Setting,
+        samples: &[f32],
+        random: &mut Random,
+    ) -> usize {
+        let subject = &self.subject;
+        let setting = with_limit(setting, change.bound(setting.bits));
         let mut lent = Lent::by_chance(subject, random);
         let mut answer = subject.open(&mut lent, &setting, samples, random);
         let received = lent.word[..subject.needed()].to_vec();
@@ -264,15 +98,21 @@ impl Change<'_> {
             steps += 1;
         }
         assert_eq!(rounds(answer), steps);
-        self.obeyed(&setting, samples, answer, &lent.word)
+        self.obeyed(change, &setting, samples, answer, &lent.word)
     }
 
     /// Whether the block takes all the rounds of the bound: one round less fails exactly then.
-    fn takes_all(&self, setting: &Setting, samples: &[f32], random: &mut Random) -> bool {
-        let bound = self.bound(setting.bits);
-        let rounds_taken = self.comes_back(setting, bound, samples, random);
+    fn takes_all(
+        &self,
+        change: &Change,
+        setting: &Setting,
+        samples: &[f32],
+        random: &mut Random,
+    ) -> bool {
+        let bound = change.bound(setting.bits);
+        let rounds_taken = self.comes_back(change, setting, bound, samples, random);
         let less = with_limit(setting, bound - 1);
-        let answer = self.tried.subject.block(&less, samples, random).answer;
+        let answer = self.subject.block(&less, samples, random).answer;
         let failed = answer.place() == FAILED;
         assert_eq!(failed, rounds_taken == bound);
         assert_eq!(rounds(answer), rounds_taken.min(bound - 1));
@@ -292,7 +132,7 @@ fn choice(mut number: usize, least: &[i32], largest: i32) -> Vec<i32> {
 }
 
 /// Every choice of levels, or `most` of them by chance if there are more. Gives their number.
-fn levels_of(change: &Change, bits: u16, most: usize, random: &mut Random) -> usize {
+fn levels_of(tried: &Tried, change: &Change, bits: u16, most: usize, random: &mut Random) -> usize {
     let setting = settings::level_step(bits, 0, 0.5);
     let (largest, least) = (largest_level(bits), change.least());
     let choices = |&least: &i32| (largest - least) as usize + 1;
@@ -301,7 +141,7 @@ fn levels_of(change: &Change, bits: u16, most: usize, random: &mut Random) -> us
         let number = if all <= most { at } else { random.below(all) };
         let magnitudes = choice(number, &least, largest);
         let samples = change.samples(&setting, &magnitudes, random);
-        change.comes_back_in_time(&setting, &samples, random);
+        tried.comes_back_in_time(change, &setting, &samples, random);
     }
     all.min(most)
 }
@@ -309,12 +149,13 @@ fn levels_of(change: &Change, bits: u16, most: usize, random: &mut Random) -> us
 /// The same for the first so many codewords and all wrong places.
 fn levels_of_code(code: Code, bits: u16, words: usize, most: usize, random: &mut Random) -> usize {
     let tried = Tried::new(code, random);
+    let codewords = tried.source.codewords.some(16, random);
     let mut blocks = 0;
-    for sent in tried.codewords.some(16, random).into_iter().take(words) {
-        for size in 0..=tried.half() {
-            for wrong in patterns::of_size(size, tried.n()) {
-                let change = tried.change(sent.clone(), wrong);
-                blocks += levels_of(&change, bits, most, random);
+    for sent in codewords.into_iter().take(words) {
+        for size in 0..=tried.source.half() {
+            for wrong in patterns::of_size(size, tried.source.n()) {
+                let change = tried.source.change(sent.clone(), wrong);
+                blocks += levels_of(&tried, &change, bits, most, random);
             }
         }
     }
@@ -342,8 +183,8 @@ fn all_levels_of_code_a_and_b() {
     assert_eq!(blocks, 16 * (1 + 9) * most);
 }
 
-/// Width 2 whole on codes of unlike columns, whose smallest weight is 2 or 3: a wrong bit of a heavier
-/// column has more checks against it, a right one more for it.
+/// Width 2 whole on codes of unlike columns, whose smallest weight is 2 or 3: a wrong bit of a
+/// heavier column has more checks against it, a right one more for it.
 #[test]
 fn all_levels_of_unlike_columns() {
     let mut random = random(1507);
@@ -371,8 +212,8 @@ fn small_and_three_more() -> Vec<Code> {
 /// Blocks by chance.
 fn some_come_back(tried: &Tried, setting: &Setting, times: usize, random: &mut Random) {
     for _ in 0..times {
-        let (change, samples) = tried.some_block(setting, random);
-        change.comes_back_in_time(setting, &samples, random);
+        let (change, samples) = tried.source.some_block(setting, random);
+        tried.comes_back_in_time(&change, setting, &samples, random);
     }
 }
 
@@ -401,8 +242,8 @@ fn hostile_levels_on_codes() {
     for code in codes::small() {
         let tried = Tried::new(code, &mut random);
         for setting in all_settings(&mut random) {
-            for (change, samples) in tried.blocks(&setting, &mut random) {
-                change.comes_back_in_time(&setting, &samples, &mut random);
+            for (change, samples) in tried.source.blocks(&setting, &mut random) {
+                tried.comes_back_in_time(&change, &setting, &samples, &mut random);
             }
         }
     }
@@ -426,10 +267,10 @@ fn hostile_levels_on_codes() {
 fn taking_all(tried: &Tried, size: usize, random: &mut Random) -> usize {
     let mut taking = 0;
     for setting in all_settings(random) {
-        for change in tried.changes(size, random) {
+        for change in tried.source.changes(size, random) {
             if change.bound(setting.bits) > 1 {
                 let samples = change.of(&setting, WORST, random);
-                taking += usize::from(change.takes_all(&setting, &samples, random));
+                taking += usize::from(tried.takes_all(&change, &setting, &samples, random));
             }
         }
     }
@@ -442,9 +283,9 @@ fn a_limit_one_smaller_does_not_do() {
     let mut random = random(1502);
     for code in small_and_three_more() {
         let tried = Tried::new(code, &mut random);
-        for size in 1..=tried.half().min(2) {
+        for size in 1..=tried.source.half().min(2) {
             let taking = taking_all(&tried, size, &mut random);
-            assert!(taking > 0, "{}, {size} wrong", tried.code.name);
+            assert!(taking > 0, "{}, {size} wrong", tried.source.code.name);
         }
     }
 }
@@ -454,15 +295,15 @@ fn a_limit_one_smaller_does_not_do() {
 fn code_a_needs_43_rounds() {
     let mut random = random(1503);
     let tried = Tried::new(codes::code_a(), &mut random);
-    let change = tried.change(vec![false; 7], vec![0]);
+    let change = tried.source.change(vec![false; 7], vec![0]);
     let setting = settings::level_step(8, 0, 0.1);
     assert_eq!(change.bound(8), 43);
     // Level 100 takes 34 rounds, the largest level all of them.
     for (first, rounds) in [(10.0, 34), (13.0, 43), (f32::MAX, 43)] {
         let samples = [first, -1.0, -1.0, -1.0, -1.0, -1.0, -1.0];
-        let taken = change.comes_back(&setting, 43, &samples, &mut random);
+        let taken = tried.comes_back(&change, &setting, 43, &samples, &mut random);
         assert_eq!(taken, rounds);
-        let taking_all = change.takes_all(&setting, &samples, &mut random);
+        let taking_all = tried.takes_all(&change, &setting, &samples, &mut random);
         assert_eq!(taking_all, rounds == 43);
     }
 }
@@ -475,9 +316,9 @@ fn half_of_l_and_one_is_always_enough() {
     for code in small_and_three_more() {
         let tried = Tried::new(code, &mut random);
         for setting in all_settings(&mut random) {
-            for (change, samples) in tried.blocks(&setting, &mut random) {
+            for (change, samples) in tried.source.blocks(&setting, &mut random) {
                 let limit = *random.pick(&[enough(setting.bits), 255]);
-                let rounds = change.comes_back(&setting, limit, &samples, &mut random);
+                let rounds = tried.comes_back(&change, &setting, limit, &samples, &mut random);
                 let most = &mut most[usize::from(setting.bits) - 2];
                 *most = rounds.max(*most);
             }
@@ -489,9 +330,9 @@ fn half_of_l_and_one_is_always_enough() {
 
 /// A block by chance, stepped and whole.
 fn steps_back(tried: &Tried, setting: &Setting, random: &mut Random) {
-    let (change, samples) = tried.some_block(setting, random);
-    let steps = change.steps_back_in_time(setting, &samples, random);
-    let rounds = change.comes_back_in_time(setting, &samples, random);
+    let (change, samples) = tried.source.some_block(setting, random);
+    let steps = tried.steps_back_in_time(&change, setting, &samples, random);
+    let rounds = tried.comes_back_in_time(&change, setting, &samples, random);
     assert_eq!(steps, rounds);
 }
 
@@ -521,7 +362,7 @@ fn stepping_obeys_the_rule() {
 fn level_zero_matters() {
     let mut random = random(1506);
     let tried = Tried::new(codes::triangle(), &mut random);
-    let change = tried.change(vec![true; 3], vec![0]);
+    let change = tried.source.change(vec![true; 3], vec![0]);
     let setting = settings::level_step(3, 5, 0.5);
     assert_eq!(change.bound(3), 2);
 
@@ -534,6 +375,6 @@ fn level_zero_matters() {
 
     assert_eq!(level(&setting, 0.25), 1);
     let samples = [-1.5, 0.25, 0.5];
-    let rounds = change.comes_back_in_time(&setting, &samples, &mut random);
+    let rounds = tried.comes_back_in_time(&change, &setting, &samples, &mut random);
     assert_eq!(rounds, 2);
 }

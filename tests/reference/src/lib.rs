@@ -1,4 +1,5 @@
-//! The literal decoder of document 01 and of cards 1 and 2 of document 02, a second opinion for the tests.
+//! The literal decoder of document 01 and of cards 1 to 3 of document 02, a second opinion for the
+//! tests.
 //!
 //! Each function is one passage of a document, done the slow way it is said: all rows are
 //! searched for a bit's checks, all pairs of rows are compared, words are lists of bits. The
@@ -8,6 +9,7 @@
 #![allow(clippy::manual_div_ceil, clippy::manual_is_multiple_of)]
 
 mod answer;
+pub mod firmware;
 mod index;
 mod iterative;
 mod matrix;
