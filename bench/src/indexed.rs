@@ -74,7 +74,7 @@ unsafe fn replay_in_c(h: LentMatrix, index: &[u16]) -> bool {
 }
 
 /// The best times of forms that take turns, each time beginning with another one.
-fn best_times<const COUNT: usize>(turns: usize, mut forms: [Form; COUNT]) -> [f64; COUNT] {
+pub fn best_times<const COUNT: usize>(turns: usize, mut forms: [Form; COUNT]) -> [f64; COUNT] {
     for turn in 0..turns {
         for at in 0..COUNT {
             forms[(at + turn) % COUNT].turn();
@@ -84,7 +84,7 @@ fn best_times<const COUNT: usize>(turns: usize, mut forms: [Form; COUNT]) -> [f6
 }
 
 /// A form that goes through the words or blocks, one a call.
-fn through_all<'a>(mut call: impl FnMut(usize) + 'a) -> Form<'a> {
+pub fn through_all<'a>(mut call: impl FnMut(usize) + 'a) -> Form<'a> {
     let mut at = 0;
     Form::new(WORDS, move || {
         at = (at + 1) % WORDS;
@@ -131,7 +131,7 @@ fn measure_one_step(code: &Code, turns: usize) {
 }
 
 /// Codewords received with noise.
-fn received_blocks(code: &Code, deviation: f64) -> Vec<Vec<f32>> {
+pub fn received_blocks(code: &Code, deviation: f64) -> Vec<Vec<f32>> {
     let mut random = Random::new(1);
     let codewords = Codewords::of(&code.matrix);
     let block = |random: &mut Random| {

@@ -4,6 +4,7 @@
 //! many as the argument says, and a fifth of that for the programs, whose times are in the last
 //! table. Above each table stands what was done.
 
+mod face;
 mod indexed;
 mod programs;
 
@@ -223,5 +224,6 @@ fn main() {
         measure_one_step(&code, turns);
     }
     indexed::measure(turns);
+    face::measure(turns);
     programs::measure(turns.div_ceil(PROGRAM_SHARE));
 }
