@@ -1,5 +1,6 @@
 -- The numbers of every answer have room in its code.
 --   failing-small     == a count of failing checks has room
+--   changed-small     == a count of changed bits has room
 --   report-small      == a one-step report on an accepted matrix has room
 --   one-step-small    == every answer of one-step voting has room
 --   one-step-indexed-small   == so has every answer of one-step voting by an index
@@ -10,14 +11,17 @@
 use mathlib.Core.Path.{_≡_, refl, subst}
 use mathlib.Core.Bool.{Bool, true, false, cond}
 use mathlib.Core.List.{List}
-use Prim.Native.Nat.{ℕ, _≤_}
+use Prim.Native.Nat.{ℕ, _*_, _≤_}
 use native.Mathlib.Omega.{arith}
 use lib.Dec.{eqb}
 use lib.Ieee.{Float}
+use lib.ListN.{length}
 use Rattle.counting.proofs.Searches.{cases}
 use Rattle.answers.specs.Paper.Answers.{Verdict, accepted, refused, Said, andThen, after}
 use Rattle.packed_word.specs.Paper.Packed.{bitAt}
 use Rattle.packed_word.proofs.Distances.{distance-le}
+use Rattle.changed_bits.specs.Paper.Call.{changedVerdict, changedOf}
+use Rattle.changed_bits.proofs.Verdicts.{accepted-reads}
 use Rattle.matrix.specs.Paper.Code.{Matrix, failing}
 use Rattle.matrix.specs.Paper.Check.{checkOf}
 use Rattle.matrix.specs.Paper.PlainCheck.{Accepted}
@@ -56,6 +60,22 @@ pub failing-small : (H : Matrix) (w : List ℕ) → Small (failingOf H w)
 unfolding failingOf failingVerdict
 failing-small H w =
     after-small (checkOf H) _ _ (λ e. omega (arith, failing-le H (bitAt w), accepted-is H e .sizes .m-most))
+
+-- an answer is small where its report is so once what is asked accepts
+said-small : (v : Verdict) (s : Said) → (v ≡ accepted → Small s) → Small (after v s)
+said-small accepted s h = h refl
+said-small (refused k x) s h = tt
+
+-- a count of changed bits
+pub changed-small : (a b : List ℕ) → Small (changedOf a b)
+unfolding changedOf
+changed-small a b =
+    said-small (changedVerdict a b) _
+    (λ e. record {
+      rounds = omega arith;
+      failing = omega arith;
+      changed = omega (arith, distance-le (8 * length a) (bitAt a) (bitAt b), accepted-reads a b e .most);
+    })
 
 -- one-step voting, on an accepted matrix and as a whole
 pub report-small : (H : Matrix) → Accepted H → (z : ℕ → ℕ) → Small (oneStepReport H z)

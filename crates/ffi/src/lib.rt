@@ -16,6 +16,7 @@ ghost use Rattle.matrix.specs.Paper.Code.{matrix};
 ghost use Rattle.matrix.specs.Paper.Check.{checkOf};
 ghost use Rattle.matrix_index.specs.Paper.Index.{indexOf, indexVerdict};
 ghost use Rattle.syndrome.specs.Paper.Failing.{failingOf};
+ghost use Rattle.changed_bits.specs.Paper.Call.{changedOf};
 ghost use Rattle.majority_logic.specs.Paper.OneStep.{oneStepVerdict, oneStepOf, oneStepWord};
 ghost use Rattle.one_step_indexed.specs.Paper.Call.{oneStepIndexedVerdict, oneStepIndexedOf};
 ghost use Rattle.session_asking.specs.Paper.Asked.{lent};
@@ -51,6 +52,14 @@ pub extern "C" fn mlgd_failing(
 {
     let shape = Shape { n, m, rho, gamma };
     counted_code(failing_checks::failing(shape, list, received))
+}
+
+// The count of places at which two runs of bytes differ.
+#[no_mangle]
+pub extern "C" fn mlgd_changed(a: &[u8], b: &[u8]) -> u64
+    ensures { λ r. ⌜ r ≡ codeOf (changedOf (now (a .entry)) (now (b .entry))) ⌝ }
+{
+    answer_code(changed_bits::changed(a, b))
 }
 
 // One-step voting.

@@ -1,5 +1,5 @@
 // Iterative voting on a matrix, a setting and samples that are known to be accepted, and what is asked of setting and samples before.
-// Rests on `iterative_rounds`, `quantiser` and `packed_word`. Document 01: "Iterative voting"; refusals 6 to 8.
+// Rests on `iterative_rounds`, `quantiser`, `packed_word` and `packed_distance`. Document 01: "Iterative voting"; refusals 6 to 8.
 use answers::Checked;
 use answers::Refusal;
 use answers::Report;
@@ -54,7 +54,7 @@ fn changed_bits(word: &[u8], hard: &[u8], n: usize) -> u16
     ensures { λ r. ⌜ r ≡ distance (8 * bytesFor n) (bitAt (take (bytesFor n) (now (word .entry)))) (bitAt (take (bytesFor n) (now (hard .entry)))) ⌝ }
 {
     let bytes = (n + 7) / 8;
-    packed_word::differing(&word[..bytes], &hard[..bytes])
+    packed_distance::differing(&word[..bytes], &hard[..bytes])
 }
 
 // Step 1: the samples' levels, written to the caller's buffer and kept for the rounds, and their hard bits.

@@ -1,5 +1,5 @@
 // One-step voting on a matrix and a received word that are known to be accepted.
-// Rests on `majority_votes`, `majority_flips`, `matrix_degrees`, `syndrome`, `packed_word` and `matrix_check`.
+// Rests on `majority_votes`, `majority_flips`, `matrix_degrees`, `syndrome`, `packed_word`, `packed_distance` and `matrix_check`.
 // Document 01: "One-step voting"; document 02: card 2.
 use answers::Report;
 use majority_votes::Stop;
@@ -64,7 +64,7 @@ pub fn hand_back(
 {
     let need = (n + 7) / 8;
     packed_word::pack_into(bits, n, word);
-    let changed = packed_word::differing(&word[..need], received);
+    let changed = packed_distance::differing(&word[..need], received);
     answers::ended(stop.rounds, stop.failing, changed)
 }
 

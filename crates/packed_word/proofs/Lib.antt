@@ -1,6 +1,5 @@
 pub mod Digits
 pub mod Masks
 pub mod Distances
-pub mod Counts
 pub mod Packed
 pub mod Stores

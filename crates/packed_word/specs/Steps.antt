@@ -1,13 +1,11 @@
 -- What one call does to a packed or an unpacked word.
 --   SetBit, FlipBit  == one bit of a packed word set, turned over
 --   Unpacked         == an array that holds a word's bits one by one
---   apart x y        == the number of places at which two bytes differ
 -- Assumes nothing.
-use Prim.Native.Nat.{ℕ, _-_, _/_, _%_, _^_, _<_, _≤_}
+use Prim.Native.Nat.{ℕ, _-_, _<_, _≤_}
 use mathlib.Core.Path.{_≡_}
 use mathlib.Core.List.{List}
 use lib.ListN.{length}
-use Rattle.counting.specs.Paper.Sum.{sumBelow, unequal}
 use Rattle.counting.specs.Places.{at}
 use Rattle.packed_word.specs.Paper.Packed.{bitAt}
 
@@ -28,7 +26,3 @@ pub record Unpacked (n : ℕ) (w old new : List ℕ) : Type 0 where
   pub long : length new ≡ 1023
   pub each : (j : ℕ) → j < n → at new j ≡ bitAt w j
   pub rest : (j : ℕ) → n ≤ j → at new j ≡ at old j
-
--- the places, of eight, at which two bytes differ, the highest first
-unfoldable pub apart : ℕ → ℕ → ℕ
-apart x y = sumBelow 8 (λ i. unequal (x / 2 ^ (7 - i) % 2) (y / 2 ^ (7 - i) % 2))

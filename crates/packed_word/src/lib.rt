@@ -1,5 +1,5 @@
 // Packed words: eight bits to a byte, bit 0 in the highest place of byte 0. One bit read, set and turned over, and the spare places; words
-// unpacked, packed, and compared.
+// unpacked and packed.
 // Rests on `counting`. Document 01: "The code and the block"; the named form "by shift and mask".
 ghost use mathlib.Core.Path.{_≡_};
 ghost use Prim.Native.Nat.{ℕ, _+_, _*_, _/_, _<_, _≤_};
@@ -8,8 +8,8 @@ ghost use lib.ListN.{length};
 ghost use Rattle.counting.specs.Paper.Sum.{flag};
 ghost use Rattle.counting.specs.Paper.Lists.{over};
 ghost use Rattle.counting.specs.Places.{at};
-ghost use Rattle.packed_word.specs.Paper.Packed.{bitAt, bytesFor, packedByte, pack, distance, spareSet};
-ghost use Rattle.packed_word.specs.Steps.{Unpacked, apart, SetBit, FlipBit};
+ghost use Rattle.packed_word.specs.Paper.Packed.{bitAt, bytesFor, packedByte, pack, spareSet};
+ghost use Rattle.packed_word.specs.Steps.{Unpacked, SetBit, FlipBit};
 
 // Bit j of a packed word. Only this repository's crates call it, with a bit that the word has.
 pub fn get_bit(w: &[u8], j: usize) -> u8
@@ -116,25 +116,4 @@ pub fn pack_into(bits: &[u8; 1023], n: usize, w: &mut [u8])
         w[q] = packed_byte(bits, n, q);
         q += 1;
     }
-}
-
-// At how many of its eight places one byte differs from another.
-fn places_apart(x: u8, y: u8) -> u32
-    ensures { λ r. ⌜ r ≡ apart x y ⌝ }
-{
-    u8::count_ones(x ^ y)
-}
-
-// At how many places two words of the same length differ, byte by byte. Only this repository's crates call it.
-pub fn differing(a: &[u8], b: &[u8]) -> u16
-    requires { ⌜ (length (now a) ≡ length (now b)) × (length (now a) ≤ 128) ⌝ }
-    ensures { λ r. ⌜ r ≡ distance (8 * length (now (a .entry))) (bitAt (now (a .entry))) (bitAt (now (b .entry))) ⌝ }
-{
-    let mut found: u16 = 0;
-    let mut q = 0;
-    while q < a.len() {
-        found += places_apart(a[q], b[q]) as u16;
-        q += 1;
-    }
-    found
 }

@@ -1,5 +1,5 @@
 // One step of a session, by value: the record in and out.
-// Rests on `session`, `session_asking`, `session_record`, `iterative_core`, `iterative_levels`, `packed_word`, `majority_votes`, `syndrome` and `matrix_degrees`.
+// Rests on `session`, `session_asking`, `session_record`, `iterative_core`, `iterative_levels`, `packed_word`, `packed_distance`, `majority_votes`, `syndrome` and `matrix_degrees`.
 // Document 01: "Rounds one at a time"; document 02: card 2.
 use answers::Checked;
 use iterative_levels::Kept;
@@ -83,7 +83,7 @@ fn step_accepted(
     let k = session.k;
     let middle = largest_of(course.bits);
     let failing = round_on(shape, list, middle, word, levels);
-    let changed = packed_word::differing(&word[..need], received);
+    let changed = packed_distance::differing(&word[..need], received);
     session_record::after_round(shape, course, k + 1, failing, changed)
 }
 

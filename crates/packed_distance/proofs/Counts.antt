@@ -16,11 +16,11 @@ use lib.Count.{ones, ones-step}
 use lib.ListN.{getD}
 use Rattle.counting.specs.Paper.Sum.{sumBelow, unequal}
 use Rattle.counting.proofs.Sums.{sum-cong, sum-append, sum-bound, differ-le}
 use Rattle.packed_word.specs.Paper.Packed.{bitAt, distance}
-use Rattle.packed_word.specs.Steps.{apart}
+use Rattle.packed_distance.specs.Parts.{apart}
 use Rattle.counting.specs.Digits.{binaryDigit}
 use Rattle.counting.proofs.Digits.{digit-xor}
 use Rattle.packed_word.proofs.Packed.{bit-of}
 
 xor-differ : (x y : ℕ) → x < 2 → y < 2 → bitXor x y ≡ unequal x y
 unfolding unequal

@@ -1,0 +1,2 @@
+-- What the contracts of `changed_bits` cite.
+pub mod Paper

@@ -1,0 +1,3 @@
+-- What the contracts of `packed_distance` cite.
+pub mod Paper
+pub mod Parts
