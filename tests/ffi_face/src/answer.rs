@@ -26,6 +26,11 @@ impl Packed {
         answer.map_or_else(Packed::refused, |failing| Packed::new(0, 0, failing, 0))
     }
 
+    /// The same for the count of changed bits.
+    pub fn of_changed(answer: Result<usize, Refusal>) -> Packed {
+        answer.map_or_else(Packed::refused, |changed| Packed::new(0, 0, 0, changed))
+    }
+
     /// The same for voting.
     pub fn of_voting(answer: Result<Answer, Refusal>) -> Packed {
         answer.map_or_else(Packed::refused, |answer| {

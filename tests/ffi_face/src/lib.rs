@@ -48,6 +48,8 @@ extern "C" {
         word: *mut u8,
         word_len: usize,
     ) -> u64;
+
+    fn mlgd_changed(a: *const u8, a_len: usize, b: *const u8, b_len: usize) -> u64;
 }
 
 /// The sizes and the list as they are lent. The list may stand anywhere.
@@ -116,4 +118,11 @@ pub fn one_step(h: LentMatrix, received: &[u8], word: &mut [u8]) -> Packed {
             word.len(),
         )
     })
+}
+
+/// The count of places at which two runs of bytes differ. Inlined, as it takes no longer than a call.
+#[inline]
+pub fn changed(a: &[u8], b: &[u8]) -> Packed {
+    // SAFETY: as above.
+    Packed(unsafe { mlgd_changed(a.as_ptr(), a.len(), b.as_ptr(), b.len()) })
 }

@@ -1,4 +1,4 @@
-//! The literal decoder of document 01 and of cards 1 to 3 of document 02, a second opinion for the
+//! The literal decoder of document 01 and of cards 1 to 4 of document 02, a second opinion for the
 //! tests.
 //!
 //! Each function is one passage of a document, done the slow way it is said: all rows are
@@ -9,6 +9,7 @@
 #![allow(clippy::manual_div_ceil, clippy::manual_is_multiple_of)]
 
 mod answer;
+mod changed;
 pub mod firmware;
 mod index;
 mod iterative;
@@ -22,6 +23,7 @@ mod whole;
 mod word;
 
 pub use answer::{Answer, Outcome};
+pub use changed::changed;
 pub use index::{index, index_of, iterative_indexed, one_step_indexed, trust_index, write_index};
 pub use iterative::{iterative, iterative_accepted};
 pub use matrix::{check, Matrix};
