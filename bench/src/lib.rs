@@ -3,6 +3,7 @@
 
 pub mod accumulate;
 pub mod clock;
+pub mod distance;
 pub mod incremental;
 pub mod index;
 pub mod optimised;

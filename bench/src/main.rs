@@ -4,6 +4,7 @@
 //! many as the argument says, and a fifth of that for the programs, whose times are in the last
 //! table. Above each table stands what was done.
 
+mod changed;
 mod face;
 mod indexed;
 mod programs;
@@ -225,5 +226,6 @@ fn main() {
     }
     indexed::measure(turns);
     face::measure(turns);
+    changed::measure(turns);
     programs::measure(turns.div_ceil(PROGRAM_SHARE));
 }
