@@ -32,7 +32,7 @@ pub enum Outcome {
     Working,
 }
 
-// What an accepted decoding call answers.
+// What an accepted decoding call answers; and the count of changed bits, whose other numbers are 0.
 pub struct Report {
     pub outcome: Outcome,
     pub rounds: u16,
@@ -40,7 +40,7 @@ pub struct Report {
     pub changed: u16,
 }
 
-// The answer of a decoding call.
+// The answer of a decoding call, or of the count of changed bits.
 pub enum Answer {
     Done(Report),
     Refused(Refusal),

@@ -1,12 +1,12 @@
 -- What the count of changed bits says of two runs of bytes.
 --   unlike-refused    == of unlike lengths: refusal 7
---   longer-refused    == longer than any word: refusal 7
+--   longer-refused    == longer than the longest word: refusal 7
 --   counted-said      == else: the number of places at which they differ
---   accepted-reads    == what is accepted has one length, of no more bytes than a word has
+--   accepted-reads    == what is accepted has one length, of no more bytes than the longest word has
 --   reads-accepted    == and all that has is accepted
 -- Assumes nothing.
-use mathlib.Core.Path.{_≡_, sym, ap, _∙_}
-use mathlib.Core.Bool.{not}
+use mathlib.Core.Path.{_≡_, refl, ap}
+use mathlib.Core.Bool.{Bool, true, false, not, _||_}
 use mathlib.Core.List.{List}
 use Prim.Native.Nat.{ℕ, _*_, _<_}
 use borrow.Author.Tests.{eqb-true, ltb-false, not-false, eq-eqb, ne-eqb, lt-ltb, le-ltb}
@@ -18,18 +18,23 @@ use Rattle.answers.proofs.Verdicts.{passed}
 use Rattle.packed_word.specs.Paper.Packed.{bitAt, distance}
 use Rattle.changed_bits.specs.Paper.Call.{mostBytes, wrongRuns, changedVerdict, changedOf, Comparable}
 
+-- a test that passes beside another
+or-true : (t : Bool) → (t || true) ≡ true
+or-true true = refl
+or-true false = refl
+
 module _ (a b : List ℕ) where
   -- of unlike lengths
   pub unlike-refused : (length a ≡ length b → ⊥) → refusal 7 0 ≡ changedOf a b
   unfolding changedOf changedVerdict wrongRuns
   unlike-refused h = rw (ne-eqb (length a) (length b) h)
 
-  -- longer than any word
-  pub longer-refused : length a ≡ length b → mostBytes < length a → refusal 7 0 ≡ changedOf a b
+  -- longer than the longest word
+  pub longer-refused : mostBytes < length a → refusal 7 0 ≡ changedOf a b
   unfolding changedOf changedVerdict wrongRuns
-  longer-refused e h = rw (eq-eqb (length a) (length b) e, lt-ltb mostBytes (length a) h)
+  longer-refused h = rw (lt-ltb mostBytes (length a) h, or-true (not (eqb (length a) (length b))))
 
-  -- all that has one length, of no more bytes than a word has, is accepted
+  -- all that has one length, of no more bytes than the longest word has, is accepted
   pub reads-accepted : Comparable a b → changedVerdict a b ≡ accepted
   unfolding changedVerdict wrongRuns
   reads-accepted c = rw (eq-eqb (length a) (length b) (c .equal), le-ltb mostBytes (length a) (c .most))

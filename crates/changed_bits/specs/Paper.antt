@@ -1,2 +1,2 @@
--- What a reader must believe: document 02's definitions and the statements of the theorems.
+-- What a reader must believe: what the count of changed bits says as a call.
 pub mod Call

@@ -1,5 +1,5 @@
 // At how many places two runs of bytes differ: the count of changed bits as a call.
-// Rests on `packed_distance` and `answers`. Document 02, card 4.
+// Rests on `packed_distance` and `answers`. The count is document 02's, card 4; the call and what it refuses are this project's own.
 use answers::Answer;
 use answers::Refusal;
 use answers::ended;

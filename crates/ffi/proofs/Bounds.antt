@@ -18,6 +18,7 @@ use lib.Ieee.{Float}
 use lib.ListN.{length}
 use Rattle.counting.proofs.Searches.{cases}
 use Rattle.answers.specs.Paper.Answers.{Verdict, accepted, refused, Said, andThen, after}
+use Rattle.answers.proofs.Verdicts.{passed-on}
 use Rattle.packed_word.specs.Paper.Packed.{bitAt}
 use Rattle.packed_word.proofs.Distances.{distance-le}
 use Rattle.changed_bits.specs.Paper.Call.{changedVerdict, changedOf}
@@ -40,11 +41,14 @@ use Rattle.one_step_indexed.specs.Paper.Call.{oneStepIndexedVerdict, oneStepInd
 use Rattle.iterative_indexed.specs.Paper.Call.{iterativeIndexedVerdict, iterativeIndexedOf}
 use Rattle.ffi_codes.specs.Codes.{Small}
 
--- an answer is small where its report is so on an accepted matrix
+-- an answer is small where its report is so once what is asked accepts
+said-small : (v : Verdict) (s : Said) → (v ≡ accepted → Small s) → Small (after v s)
+said-small accepted s h = h refl
+said-small (refused k x) s h = tt
+
+-- and where its report is so on an accepted matrix
 after-small : (v w : Verdict) (s : Said) → (v ≡ accepted → Small s) → Small (after (andThen v w) s)
-after-small accepted accepted s h = h refl
-after-small accepted (refused k x) s h = tt
-after-small (refused k x) w s h = tt
+after-small v w s h = said-small (andThen v w) s (λ e. h (passed-on v w e .0))
 
 -- rounds are 0 or 1
 rounds-le : (H : Matrix) (z : ℕ → ℕ) → stepRounds H z ≤ 1
@@ -60,11 +64,6 @@ pub failing-small : (H : Matrix) (w : List ℕ) → Small (failingOf H w)
 unfolding failingOf failingVerdict
 failing-small H w =
     after-small (checkOf H) _ _ (λ e. omega (arith, failing-le H (bitAt w), accepted-is H e .sizes .m-most))
-
--- an answer is small where its report is so once what is asked accepts
-said-small : (v : Verdict) (s : Said) → (v ≡ accepted → Small s) → Small (after v s)
-said-small accepted s h = h refl
-said-small (refused k x) s h = tt
 
 -- a count of changed bits
 pub changed-small : (a b : List ℕ) → Small (changedOf a b)

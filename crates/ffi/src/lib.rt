@@ -1,5 +1,5 @@
 // Exported functions for tests and benchmarks: each answer is one number of 64 bits.
-// Rests on every decoder and on `ffi_codes`. Design, section 4: the test face.
+// Rests on every decoder, on `changed_bits` and on `ffi_codes`. Design, section 4: the test face.
 use ffi_codes::RECORD_CELLS;
 use ffi_codes::answer_code;
 use ffi_codes::checked_code;

@@ -46,8 +46,8 @@ fn report_code(p: Report) -> u64
     o + 4294967296 * (r + 256 * (f + 4096 * c))
 }
 
-// The answer of a decoding call.
-// Only this repository's crates call it: every decoder's answer has room.
+// The answer of a decoding call, or of the count of changed bits.
+// Only this repository's crates call it: every such answer has room.
 pub fn answer_code(a: Answer) -> u64
     requires { ⌜ Small (saidOf a) ⌝ }
     ensures { λ r. ⌜ r ≡ codeOf (saidOf a) ⌝ }

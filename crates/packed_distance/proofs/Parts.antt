@@ -13,7 +13,6 @@ use mathlib.Core.Path.{_≡_, refl, ap, ap₂, _∙_}
 use mathlib.Core.List.{List}
 use Prim.Native.Nat.{ℕ, zero, suc, _+_, _*_, _-_, _≤_, _<_}
 use native.Mathlib.Omega.{arith}
-use native.Mathlib.Numerals.{add-one}
 use lib.ListN.{getD, take, drop}
 use lib.Seq.{getD-take, getD-drop}
 use Rattle.counting.specs.Paper.Sum.{sumBelow}
@@ -37,7 +36,7 @@ apart-within a b q k r e =
 
 module _ (a b : List ℕ) where
   -- the places at which byte i differs
-  abbrev pub apartAt : ℕ → ℕ
+  abbrev apartAt : ℕ → ℕ
   apartAt i = apart (getD a i 0) (getD b i 0)
 
   -- no bytes differ at no place
@@ -51,7 +50,7 @@ module _ (a b : List ℕ) where
   apart-one q = omega arith
 
   -- the places of one part and of the next are together those of both
-  pub apart-append : (q k l : ℕ) → apartIn a b q (k + l) ≡ apartIn a b q k + apartIn a b (q + k) l
+  apart-append : (q k l : ℕ) → apartIn a b q (k + l) ≡ apartIn a b q k + apartIn a b (q + k) l
   unfolding apartIn
   apart-append q k l =
       let e : (i : ℕ) → q + (k + i) ≡ q + k + i = λ i. omega arith in
@@ -86,7 +85,7 @@ module _ (a b : List ℕ) where
       omega (arith, ap (apartIn a b from) next, apart-append from (q - from) 1, apart-one (from + (q - from)), ap apartAt here)
 
   -- the places of the first k bytes are the distance of their bits
-  pub apart-all : (k : ℕ) → apartIn a b 0 k ≡ distance (8 * k) (bitAt a) (bitAt b)
+  apart-all : (k : ℕ) → apartIn a b 0 k ≡ distance (8 * k) (bitAt a) (bitAt b)
   unfolding apartIn sumBelow
   apart-all zero = distance-none (bitAt a) (bitAt b)
   apart-all (suc k) =

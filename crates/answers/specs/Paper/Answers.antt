@@ -45,7 +45,8 @@ abbrev pub wrongLengths : ℕ → ℕ → ℕ → ℕ → ℕ → ℕ → Bool
 wrongLengths lent wanted bytes need room cells = not (eqb lent wanted) || (ltb bytes need || ltb room cells)
 
 -- "An answer holds": outcome (0 decoded, 1 failed, 2 working), rounds, failing, changed.
--- The count of failing checks answers its number, the matrix check and the quantiser that they accept
+-- The count of failing checks answers its number, the matrix check and the quantiser that they accept; the count of changed bits a report
+-- with all else 0
 pub data Said : Type 0 where
   refusal : ℕ → ℕ → Said
   report : ℕ → ℕ → ℕ → ℕ → Said

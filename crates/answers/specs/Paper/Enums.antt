@@ -1,7 +1,7 @@
 -- Which number and values of document 01 each case of an answer is.
 --   numberOf, placeOf   == of a refusal
 --   outcomeOf           == of an outcome: 0 decoded, 1 failed, 2 working
---   verdictOf, reportOf, saidOf, countedOf   == of a check, a report, a decoding call, a count of failing checks
+--   verdictOf, reportOf, saidOf, countedOf   == of a check, a report, a call that reports, a count of failing checks
 -- Assumes nothing.
 use Prim.Native.Nat.{ℕ}
 use Rattle.answers.specs.Paper.Answers.{Verdict, accepted, refused, Said, refusal, report, count}
@@ -64,7 +64,7 @@ verdictOf (checked.Refused f) = refused (numberOf f) (placeOf f)
 abbrev pub reportOf : Report → Said
 reportOf p = report (outcomeOf (p .outcome)) (p .rounds) (p .failing) (p .changed)
 
--- a decoding call says its report, or the refusal's number and place
+-- a call that reports says its report, or the refusal's number and place
 abbrev pub saidOf : Answer → Said
 saidOf (answer.Done p) = reportOf p
 saidOf (answer.Refused f) = refusal (numberOf f) (placeOf f)

@@ -1,6 +1,6 @@
 -- `changed_bits::changed` meets its contract: refusal 7 by each of the two lengths, else the number of places. Assumes nothing.
 use borrow.Author.Needs.{needs}
-use mathlib.Core.Path.{_≡_, _∙_}
+use mathlib.Core.Path.{_∙_}
 use native.Mathlib.Omega.{arith}
 use Rattle.changed_bits.specs.Paper.Call.{Comparable}
 use Rattle.changed_bits.proofs.Verdicts.{unlike-refused, longer-refused, counted-said}
@@ -15,7 +15,7 @@ returns c =
 returns-2 : tie.Need-returns-2
 returns-2 c =
     let a = c .before .before .before .before .args in
-    longer-refused (a .a .now) (a .b .now) (c .before .if1 .left) (omega (arith, c .if2 .taken))
+    longer-refused (a .a .now) (a .b .now) (omega (arith, c .if2 .taken))
 
 differing-requires : tie.Need-differing-requires
 differing-requires c κs = search needs

@@ -1,8 +1,9 @@
--- The count of changed bits as a call. (Document 02, card 4.)
+-- The count of changed bits as a call. The count is document 02's, card 4; the call and what it refuses are this project's own.
 --   mostBytes            == the bytes of the longest word
 --   wrongRuns a b        == two runs of unlike lengths, or longer than any word
 --   changedVerdict a b   == what is asked of two runs of bytes: refusal 7
---   changedOf a b        == what the call says: a report whose changed is the number of places at which they differ, all else 0
+--   changedOf a b        == what the call says: a report whose changed is the number of places at which they differ. All else is 0, and the
+--                           outcome tells nothing here
 --   Comparable a b       == the runs that are accepted, in statements
 -- Assumes nothing.
 use Prim.Native.Nat.{ℕ, _*_, _≤_}

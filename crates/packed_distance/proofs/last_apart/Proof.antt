@@ -1,6 +1,6 @@
 -- `packed_distance::last_apart` meets its contract. The loop's invariant: the number found is that of the bytes from `from` to before q. Assumes nothing.
 use mathlib.Core.Path.{_≡_, ap, _∙_}
-use Prim.Native.Nat.{ℕ, _+_, _*_, _-_, _≤_}
+use Prim.Native.Nat.{_-_, _≤_}
 use native.Mathlib.Omega.{arith}
 use lib.ListN.{length}
 use Rattle.packed_distance.specs.Parts.{apartIn}

@@ -1,6 +1,6 @@
 -- `packed_distance::words_apart` meets its contract. The loop's invariant: the number found is that of the first i words. Assumes nothing.
 use mathlib.Core.Path.{_≡_, ap, _∙_}
-use Prim.Native.Nat.{ℕ, _+_, _*_, _-_, _≤_}
+use Prim.Native.Nat.{ℕ, _*_, _-_, _≤_}
 use native.Mathlib.Omega.{arith}
 use Rattle.packed_distance.specs.Parts.{apartIn}
 use Rattle.packed_distance.proofs.Parts.{apart-none, apart-within, apart-words}
