@@ -64,8 +64,8 @@ pub fn measure(turns: usize) {
     println!(
         "The count of changed bits (`mlgd_changed`, by words of eight bytes), CPU time of a call: how many \
          times as fast as other counts it is. Byte by byte: a loop in Rust, without bounds checks, with \
-         a sum of 64 bits, as the call answers, of 32 bits, and of 16 bits, as the library's loop had it \
-         before. The compiler makes each of them take several bytes at a time in vector registers, the more \
+         a sum of 64 bits, as the library's loop over words has, of 32 bits, and of 16 bits, as the \
+         library's loop over bytes had before. The compiler makes each of them take several bytes at a time in vector registers, the more \
          the narrower the sum is. Words: in Rust, by words of eight bytes too. {WORDS} pairs of runs of \
          random bytes one after the other, the forms taking turns, and the best of {turns} turns of each \
          counts, a turn being the mean of as many calls as take a millisecond."

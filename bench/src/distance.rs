@@ -4,7 +4,7 @@
 //!
 //! No bounds checks in the loops, and no inlining, as the library's count is a call too.
 
-/// Byte by byte, with a sum of 64 bits, which is what the library's count answers.
+/// Byte by byte, with a sum of 64 bits, as the library's loop over words has.
 #[inline(never)]
 pub fn bytes_64(a: &[u8], b: &[u8]) -> u64 {
     a.iter()
@@ -19,7 +19,7 @@ pub fn bytes_32(a: &[u8], b: &[u8]) -> u32 {
     a.iter().zip(b).map(|(x, y)| (x ^ y).count_ones()).sum()
 }
 
-/// The same with a sum of 16 bits, as the library had it before document 02's card 4.
+/// The same with a sum of 16 bits, as the library's loop had before document 02's card 4.
 #[inline(never)]
 pub fn bytes_16(a: &[u8], b: &[u8]) -> u16 {
     a.iter()

@@ -60,11 +60,12 @@ fn with_byte(long: usize, at: usize, byte: u8, random: &mut Random) -> Vec<u8> {
     run
 }
 
-/// All pairs of bytes at the first place of a word, at its last one, at the first past it and at the end.
+/// All pairs of bytes as the first byte of a word, as its last one, as the first of the next word, as the first
+/// byte behind all words and as the last one.
 #[test]
 fn every_pair_of_bytes() {
     let mut random = random(2502);
-    for at in [0, 7, 8, 19] {
+    for at in [0, 7, 8, 16, 19] {
         for pair in 0..=u16::MAX {
             let [x, y] = pair.to_be_bytes();
             let a = with_byte(20, at, x, &mut random);
@@ -86,17 +87,25 @@ fn overlapping_runs() {
     }
 }
 
-/// Refusal 7: unlike lengths, among them those that are one apart.
+/// Runs between guards, both refused by 7 in either order; nothing is written.
+fn refused(long: usize, other: usize, random: &mut Random) {
+    let [a, b] = [long, other].map(|long| random.bytes(long));
+    let lent = [&a, &b].map(|run| Guarded::new(run, random));
+    let [one, two] = [lent[0].lent(), lent[1].lent()];
+    let expected = Packed::new(7 << 16, 0, 0, 0);
+    assert_eq!(ffi_face::changed(one, two), expected, "{long} {other}");
+    assert_eq!(ffi_face::changed(two, one), expected, "{other} {long}");
+    assert_eq!(Packed::of_changed(reference::changed(&a, &b)), expected);
+    assert!(lent[0].holds(&a) && lent[1].holds(&b));
+}
+
+/// Refusal 7: unlike lengths, among them those that are one apart, and those of which one is too long as well.
 #[test]
 fn unlike_lengths() {
     let mut random = random(2504);
-    let [a, b] = [0; 2].map(|_| random.bytes(MOST + 3));
-    for long in 0..a.len() {
-        for other in 0..b.len() {
-            if long != other {
-                assert_eq!(ffi_face::changed(&a[..long], &b[..other]).refusal(), 7);
-                compare(&a[..long], &b[..other]);
-            }
+    for long in 0..MOST + 3 {
+        for other in 0..long {
+            refused(long, other, &mut random);
         }
     }
 }
@@ -118,13 +127,9 @@ fn longer_runs() {
         (1 << 16) + MOST,
         1 << 20,
     ];
-    let [a, b] = [0; 2].map(|_| random.bytes(1 << 20));
     for long in lengths {
-        let expected = Packed::new(7 << 16, 0, 0, 0);
-        assert_eq!(ffi_face::changed(&a[..long], &b[..long]), expected);
-        for other in [0, 20, MOST, long - 1, long % (1 << 16)] {
-            assert_eq!(ffi_face::changed(&a[..long], &b[..other]), expected);
-            assert_eq!(ffi_face::changed(&a[..other], &b[..long]), expected);
+        for other in [0, 20, MOST, long - 1, long, long % (1 << 16)] {
+            refused(long, other, &mut random);
         }
     }
 }

@@ -120,7 +120,8 @@ pub fn one_step(h: LentMatrix, received: &[u8], word: &mut [u8]) -> Packed {
     })
 }
 
-/// The count of places at which two runs of bytes differ. Inlined, as it takes no longer than a call.
+/// The count of places at which two runs of bytes differ. Inlined, so that where it is measured no call
+/// of this function is measured with it.
 #[inline]
 pub fn changed(a: &[u8], b: &[u8]) -> Packed {
     // SAFETY: as above.
