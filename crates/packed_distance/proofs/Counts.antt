@@ -1,5 +1,5 @@
 -- The set digits of a byte, and the places at which two words differ, byte by byte.
---   byte-ones      == the set digits of the exclusive or are the places at which the bytes differ
+--   byte-apart      == the set digits of the exclusive or are the places at which the bytes differ
 --   apart-few       == two bytes differ at 8 places at most
 --   distance-none   == over no places the distance is 0
 --   distance-more   == one byte more adds the places at which the two bytes differ
@@ -53,9 +53,9 @@ ones-byte v h =
     ap ones (sym e) ∙ chain (λ k. ones (v / 2 ^ k)) (binaryDigit v) (ones-shifted v) (ap ones (div-eq-of-lt h))
 
 -- the set digits of the exclusive or are the places at which the bytes differ
-pub byte-ones : (x y : ℕ) → x < 256 → y < 256 → ones (bitXor x y) ≡ apart x y
+pub byte-apart : (x y : ℕ) → x < 256 → y < 256 → ones (bitXor x y) ≡ apart x y
 unfolding apart
-byte-ones x y h l = ones-byte (bitXor x y) (xor-lt 8 x y h l) ∙ sum-cong 8 (λ i m. xor-apart x y (7 - i))
+byte-apart x y h l = ones-byte (bitXor x y) (xor-lt 8 x y h l) ∙ sum-cong 8 (λ i m. xor-apart x y (7 - i))
 
 -- two bytes differ at 8 places at most
 pub apart-few : (r x y : ℕ) → r ≡ apart x y → r ≤ 8

@@ -19,7 +19,7 @@ use Rattle.counting.proofs.Sums.{sum-cong}
 use Rattle.packed_word.specs.Paper.Packed.{Bytes}
 use Rattle.packed_distance.specs.Paper.Words.{wordAt, wordsApart, bytesApart, apartByWords, CountsPlaces}
 use Rattle.packed_distance.specs.Parts.{apart, apartIn, WordRead}
-use Rattle.packed_distance.proofs.Counts.{byte-ones}
+use Rattle.packed_distance.proofs.Counts.{byte-apart}
 use Rattle.packed_distance.proofs.Parts.{apart-none, apart-first, apart-words, apart-long}
 
 -- ---- words that are read
@@ -58,7 +58,7 @@ grown : (x y r s : ℕ) → r < 256 → s < 256 → ones (bitXor (x * 2 ^ 8 + r)
 grown x y r s h l =
     ap ones (xor-block 8 x y r s h l)
     ∙ ones-cat 8 (bitXor x y) (bitXor r s) (xor-lt 8 r s h l)
-    ∙ ap (λ (k : ℕ). ones (bitXor x y) + k) (byte-ones r s h l)
+    ∙ ap (λ (k : ℕ). ones (bitXor x y) + k) (byte-apart r s h l)
 
 module _ (a b : List ℕ) where
   -- words of k bytes
@@ -92,7 +92,7 @@ module _ (a b : List ℕ) where
     -- the last bytes
     bytes-apart : (q k : ℕ) → bytesApart a b q k ≡ apartIn a b q k
     unfolding bytesApart apartIn Bytes
-    bytes-apart q k = sum-cong k (λ i h. byte-ones (getD a (q + i) 0) (getD b (q + i) 0) (ha (q + i)) (hb (q + i)))
+    bytes-apart q k = sum-cong k (λ i h. byte-apart (getD a (q + i) 0) (getD b (q + i) 0) (ha (q + i)) (hb (q + i)))
 
 -- "for any two runs of bytes of equal length .. this is the number of places at which they differ"
 pub counts-places : CountsPlaces
