@@ -19,6 +19,8 @@ pub enum Refusal {
     Sample(u16),
     Spare,
     Index,
+    Sheet,
+    NoSheet,
     Record,
     Ended,
     OtherSizes,
@@ -58,7 +60,13 @@ pub enum Counted {
     Refused(Refusal),
 }
 
-// The refusal's number in document 01.
+// The answer of a call that stores a sheet: how many bytes it wrote.
+pub enum Stored {
+    Bytes(u32),
+    Refused(Refusal),
+}
+
+// The refusal's number in documents 01 and 02.
 pub fn number(f: Refusal) -> u16
     ensures { λ r. ⌜ r ≡ numberOf f ⌝ }
 {
@@ -73,6 +81,8 @@ pub fn number(f: Refusal) -> u16
         Refusal::Sample(_) => 8,
         Refusal::Spare => 9,
         Refusal::Index => 10,
+        Refusal::Sheet => 11,
+        Refusal::NoSheet => 12,
         Refusal::Record => 20,
         Refusal::Ended => 21,
         Refusal::OtherSizes => 22,
@@ -95,6 +105,8 @@ pub fn place(f: Refusal) -> u16
         Refusal::Sample(j) => j,
         Refusal::Spare => 0,
         Refusal::Index => 0,
+        Refusal::Sheet => 0,
+        Refusal::NoSheet => 0,
         Refusal::Record => 0,
         Refusal::Ended => 0,
         Refusal::OtherSizes => 0,

@@ -8,7 +8,7 @@ use Prim.Native.Nat.{ℕ}
 use mathlib.Core.List.{List, [], _∷_}
 use lib.ListN.{getD}
 use Rattle.counting.specs.Paper.Lists.{over}
-use Rattle.answers.specs.Paper.Answers.{Said, refusal, report, count, acceptance}
+use Rattle.answers.specs.Paper.Answers.{Said, refusal, report, count, stored, acceptance}
 use Rattle.session_record.specs.Paper.Record.{Record}
 use Rattle.session_record.specs.Paper.Sessions.{knownState}
 
@@ -38,4 +38,5 @@ abbrev pub writtenBy : Said → List ℕ → List ℕ → List ℕ
 writtenBy (report o r f c) new old = over new old
 writtenBy (refusal k x) new old = old
 writtenBy (count k) new old = old
+writtenBy (stored k) new old = old
 writtenBy acceptance new old = old

@@ -5,6 +5,7 @@ use answers::Checked;
 use answers::Counted;
 use answers::Refusal;
 use answers::Report;
+use answers::Stored;
 use quantiser::Setting;
 use quantiser::Step;
 use session_record::Session;
@@ -15,7 +16,7 @@ ghost use mathlib.Core.Path.{_≡_};
 ghost use Prim.Native.Nat.{_+_, _*_, _≤_};
 ghost use lib.ListN.{length};
 ghost use Rattle.answers.specs.Paper.Answers.{report, acceptance, after};
-ghost use Rattle.answers.specs.Paper.Enums.{numberOf, placeOf, reportOf, saidOf, verdictOf, countedOf};
+ghost use Rattle.answers.specs.Paper.Enums.{numberOf, placeOf, reportOf, saidOf, verdictOf, countedOf, storedOf};
 ghost use Rattle.counting.specs.Paper.Lists.{over};
 ghost use Rattle.quantiser_settings.specs.Paper.Settings.{settingOf};
 ghost use Rattle.quantiser_settings.specs.Numbers.{settingBy};
@@ -77,6 +78,16 @@ pub fn checked_code(a: Checked) -> u64
     match a {
         Checked::Accepted => 0,
         Checked::Refused(f) => refusal_code(f),
+    }
+}
+
+// The answer of a call that stores a sheet: how many bytes it wrote.
+pub fn stored_code(a: Stored) -> u64
+    ensures { λ r. ⌜ r ≡ codeOf (storedOf a) ⌝ }
+{
+    match a {
+        Stored::Bytes(k) => 4294967296 * (k as u64),
+        Stored::Refused(f) => refusal_code(f),
     }
 }
 

@@ -14,7 +14,7 @@ use borrow.Author.Tests.{lt-ltb, le-ltb}
 use lib.IntN.{ℤ, pos, negsuc, natAbs}
 use lib.ListN.{length, getD}
 use Rattle.counting.proofs.Writes.{length-listed, getD-listed}
-use Rattle.answers.specs.Paper.Answers.{refusal, report, count, acceptance}
+use Rattle.answers.specs.Paper.Answers.{refusal, report, count, stored, acceptance}
 use Rattle.byte_numbers.specs.Paper.Numbers.{number16}
 use Rattle.firmware_codes.specs.Paper.Codes.{levelByte, levelBytes, levelIn}
 use Rattle.firmware_codes.specs.Paper.Claims.{ResultTells, AnswerTells, ReportBack, LevelBack, LevelBytesBack}
@@ -32,12 +32,15 @@ result-tells (refusal k x) (refusal l y) p q e =
     ap₂ (λ (a b : ℕ). a ∷ b ∷ []) (n .0) (n .1)
 result-tells (refusal k x) (report o r f c) p q e = absurd (omega (arith, p .0, q, e))
 result-tells (refusal k x) (count l) p q e = absurd q
+result-tells (refusal k x) (stored l) p q e = absurd q
 result-tells (refusal k x) acceptance p q e = absurd q
 result-tells (report o r f c) (refusal k x) p q e = absurd (omega (arith, p, q .0, e))
 result-tells (report o r f c) (report o′ r′ f′ c′) p q e = ap (λ (a : ℕ). a ∷ []) e
 result-tells (report o r f c) (count l) p q e = absurd q
+result-tells (report o r f c) (stored l) p q e = absurd q
 result-tells (report o r f c) acceptance p q e = absurd q
 result-tells (count k) t p q e = absurd p
+result-tells (stored k) t p q e = absurd p
 result-tells acceptance t p q e = absurd p
 
 -- ---- the report
@@ -62,6 +65,7 @@ answer-tells (refusal k x) (refusal l y) p q e b =
     ap₂ refusal (n .0) (n .1)
 answer-tells (refusal k x) (report o r f c) p q e b = absurd (omega (arith, p .0, q, e))
 answer-tells (refusal k x) (count l) p q e b = absurd q
+answer-tells (refusal k x) (stored l) p q e b = absurd q
 answer-tells (refusal k x) acceptance p q e b = absurd q
 answer-tells (report o r f c) (refusal k x) p q e b = absurd (omega (arith, p, q .0, e))
 answer-tells (report o r f c) (report o′ r′ f′ c′) p q e b =
@@ -69,8 +73,10 @@ answer-tells (report o r f c) (report o′ r′ f′ c′) p q e b =
     let k = report-back o′ r′ f′ c′ in
     rw (e, same-number 0 b (h .rounds) (k .rounds), same-number 2 b (h .failing) (k .failing), same-number 4 b (h .changed) (k .changed))
 answer-tells (report o r f c) (count l) p q e b = absurd q
+answer-tells (report o r f c) (stored l) p q e b = absurd q
 answer-tells (report o r f c) acceptance p q e b = absurd q
 answer-tells (count k) t p q e b = absurd p
+answer-tells (stored k) t p q e b = absurd p
 answer-tells acceptance t p q e b = absurd p
 
 -- ---- the levels

@@ -5,7 +5,7 @@
 --   refuseAt k x b v    == refusal k at place x where x lies below its bound b, else v
 --   andThen v w         == v's refusal, else what w says
 --   wrongLengths ..     == refusal 7: what is lent has not the length wanted, or a written buffer is shorter than needed
---   Said                == a whole answer: a refusal; outcome, rounds, failing and changed; a count of failing checks; an acceptance
+--   Said                == a whole answer: a refusal; outcome, rounds, failing and changed; a count of failing checks; a number of stored bytes; an acceptance
 --   outcomeBy f         == decoded where no check fails, else failed
 --   after v s           == the answer s where the verdict v accepts, else v's refusal
 --   written v new old   == what a call leaves in a lent buffer: old overwritten by new where v accepts, else old
@@ -45,12 +45,13 @@ abbrev pub wrongLengths : ℕ → ℕ → ℕ → ℕ → ℕ → ℕ → Bool
 wrongLengths lent wanted bytes need room cells = not (eqb lent wanted) || (ltb bytes need || ltb room cells)
 
 -- "An answer holds": outcome (0 decoded, 1 failed, 2 working), rounds, failing, changed.
--- The count of failing checks answers its number, the matrix check and the quantiser that they accept; the count of changed bits a report
--- with all else 0
+-- The count of failing checks answers its number, a call that stores a sheet the bytes it wrote, the matrix check and the quantiser that they
+-- accept; the count of changed bits a report with all else 0
 pub data Said : Type 0 where
   refusal : ℕ → ℕ → Said
   report : ℕ → ℕ → ℕ → ℕ → Said
   count : ℕ → Said
+  stored : ℕ → Said
   acceptance : Said
 
 -- 0 decoded, 1 failed

@@ -1,15 +1,15 @@
 -- Which number and values of document 01 each case of an answer is.
 --   numberOf, placeOf   == of a refusal
 --   outcomeOf           == of an outcome: 0 decoded, 1 failed, 2 working
---   verdictOf, reportOf, saidOf, countedOf   == of a check, a report, a call that reports, a count of failing checks
+--   verdictOf, reportOf, saidOf, countedOf, storedOf   == of a check, a report, a call that reports, a count of failing checks, a stored sheet
 -- Assumes nothing.
 use Prim.Native.Nat.{ℕ}
-use Rattle.answers.specs.Paper.Answers.{Verdict, accepted, refused, Said, refusal, report, count}
+use Rattle.answers.specs.Paper.Answers.{Verdict, accepted, refused, Said, refusal, report, count, stored}
 use Rattle.answers.specs.declared.Outcome.{Outcome}
 use Rattle.answers.specs.declared.Outcome.the-variants.{Decoded, Failed, Working}
 use Rattle.answers.specs.declared.Report.{Report}
 use Rattle.answers.specs.declared.Refusal.{Refusal}
-use Rattle.answers.specs.declared.Refusal.the-variants.{Sizes, Length, Entry, Weight, Overlap, Setting, Buffer, Sample, Spare, Index, Record}
+use Rattle.answers.specs.declared.Refusal.the-variants.{Sizes, Length, Entry, Weight, Overlap, Setting, Buffer, Sample, Spare, Index, Sheet, NoSheet, Record}
 use Rattle.answers.specs.declared.Refusal.the-variants.{Ended, OtherSizes, Beyond}
 use Rattle.answers.specs.declared.Answer.{Answer}
 use Rattle.answers.specs.declared.Answer.the-variants as answer
@@ -17,6 +17,8 @@ use Rattle.answers.specs.declared.Checked.{Checked}
 use Rattle.answers.specs.declared.Checked.the-variants as checked
 use Rattle.answers.specs.declared.Counted.{Counted}
 use Rattle.answers.specs.declared.Counted.the-variants as counted
+use Rattle.answers.specs.declared.Stored.{Stored}
+use Rattle.answers.specs.declared.Stored.the-variants as kept
 
 abbrev pub numberOf : Refusal → ℕ
 numberOf Sizes = 1
@@ -29,6 +31,8 @@ numberOf Buffer = 7
 numberOf (Sample j) = 8
 numberOf Spare = 9
 numberOf Index = 10
+numberOf Sheet = 11
+numberOf NoSheet = 12
 numberOf Record = 20
 numberOf Ended = 21
 numberOf OtherSizes = 22
@@ -45,6 +49,8 @@ placeOf Buffer = 0
 placeOf (Sample j) = j
 placeOf Spare = 0
 placeOf Index = 0
+placeOf Sheet = 0
+placeOf NoSheet = 0
 placeOf Record = 0
 placeOf Ended = 0
 placeOf OtherSizes = 0
@@ -73,3 +79,8 @@ saidOf (answer.Refused f) = refusal (numberOf f) (placeOf f)
 abbrev pub countedOf : Counted → Said
 countedOf (counted.Failing k) = count k
 countedOf (counted.Refused f) = refusal (numberOf f) (placeOf f)
+
+-- a call that stores says how many bytes it wrote, or the refusal's number and place
+abbrev pub storedOf : Stored → Said
+storedOf (kept.Bytes k) = stored k
+storedOf (kept.Refused f) = refusal (numberOf f) (placeOf f)

@@ -1,13 +1,14 @@
 -- Numbers and floats that stand in bytes. (Document 01, "Worked by hand": the paragraph on the program.)
 --   number16 bs p, number32 bs p   == the number that stands at byte p, low byte first
+--   bytes16 x                      == a number of 16 bits as two bytes, low byte first
 --   float bs p                     == the single-format float that stands at byte p
 --   entryIn bs i, entriesIn bs     == the i-th 16-bit number, and all that the bytes are
 --   sampleIn bs i, samplesIn bs    == the i-th float, and all that the bytes are
 --   notFiniteIn bs i               == whether the i-th float is infinite or not a number
 -- Assumes nothing.
-use Prim.Native.Nat.{ℕ, _+_, _*_, _/_}
+use Prim.Native.Nat.{ℕ, _+_, _*_, _/_, _%_}
 use mathlib.Core.Bool.{Bool, not}
-use mathlib.Core.List.{List}
+use mathlib.Core.List.{List, [], _∷_}
 use lib.Ieee.{Float, binary32, ofBits}
 use lib.Ieee.Scale.{finite}
 use lib.ListN.{length, getD}
@@ -16,6 +17,10 @@ use Rattle.counting.specs.Paper.Lists.{listed}
 -- "16-bit numbers, low byte first"
 unfoldable pub number16 : List ℕ → ℕ → ℕ
 number16 bs p = getD bs p 0 + 256 * getD bs (p + 1) 0
+
+-- "16 bits each, low byte first", as they are written
+abbrev pub bytes16 : ℕ → List ℕ
+bytes16 x = x % 256 ∷ x / 256 ∷ []
 
 unfoldable pub number32 : List ℕ → ℕ → ℕ
 number32 bs p = number16 bs p + 65536 * number16 bs (p + 2)

@@ -12,7 +12,7 @@ use mathlib.Core.Path.{_≡_}
 use mathlib.Core.List.{List, [], _∷_}
 use lib.IntN.{ℤ, pos, natAbs}
 use lib.ListN.{length, getD}
-use Rattle.answers.specs.Paper.Answers.{Said, refusal, report, count, acceptance}
+use Rattle.answers.specs.Paper.Answers.{Said, refusal, report, count, stored, acceptance}
 use Rattle.byte_numbers.specs.Paper.Numbers.{number16}
 use Rattle.firmware_codes.specs.Paper.Codes.{resultOf, reportBytes, levelByte, levelBytes, levelIn}
 
@@ -21,6 +21,7 @@ abbrev pub Told : Said → Type 0
 Told (refusal k x) = (1 ≤ k) × (k ≤ 8) × (x < 65536)
 Told (report o r f c) = o ≤ 1
 Told (count k) = ⊥
+Told (stored k) = ⊥
 Told acceptance = ⊥
 
 -- what the returned number is to tell: number and place of a refusal, or the outcome
@@ -28,6 +29,7 @@ abbrev pub ending : Said → List ℕ
 ending (refusal k x) = k ∷ x ∷ []
 ending (report o r f c) = o ∷ []
 ending (count k) = []
+ending (stored k) = []
 ending acceptance = []
 
 -- the returned number tells decoded, failed, and each refusal with its place apart

@@ -8,7 +8,7 @@
 -- Assumes nothing.
 use Prim.Native.Nat.{ℕ, zero, suc}
 use mathlib.Core.List.{List, [], _∷_, _++_}
-use Rattle.answers.specs.Paper.Answers.{Said, refusal, report, count, acceptance}
+use Rattle.answers.specs.Paper.Answers.{Said, refusal, report, count, stored, acceptance}
 use Rattle.program_numerals.specs.Paper.Numerals.{ascii, decimal, hex}
 
 -- "fields one space apart"
@@ -40,6 +40,7 @@ saidText (report o r f c) w = line (outcomeText o ∷ decimal r ∷ decimal f �
 saidText (refusal k x) w = refusedText k x
 -- no block's line says these
 saidText (count k) w = []
+saidText (stored k) w = []
 saidText acceptance w = []
 
 -- "block number from 0" comes first in the line of a block
