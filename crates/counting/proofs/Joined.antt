@@ -1,13 +1,16 @@
 -- Laws of lists one after another, and of lists of numbers compared.
 --   length-joined   == as long as its parts together
 --   getD-joined     == element q of part j stands q places after the parts before j
+--   joined-cong     == equal parts make equal lists
+--   length-rows     == k parts of w elements each have k * w together
+--   getD-rows       == and element q of part j stands at j * w + q
 --   same-list       == lists that compare equal are equal
 --   list-same       == and equal lists compare equal
 -- Assumes nothing.
-use mathlib.Core.Path.{_≡_, refl, sym, ap₂, subst, _∙_}
+use mathlib.Core.Path.{_≡_, refl, sym, ap, ap₂, subst, _∙_}
 use mathlib.Core.Bool.{true}
 use mathlib.Core.List.{List, [], _∷_}
-use Prim.Native.Nat.{ℕ, zero, suc, _+_, _<_}
+use Prim.Native.Nat.{ℕ, zero, suc, _+_, _*_, _<_}
 use native.Mathlib.Nat.{not-suc-le-zero}
 use native.Mathlib.Decide.{ℕ-discrete}
 use native.Mathlib.Omega.{arith}
@@ -17,7 +20,7 @@ use lib.Seq.{getD-append-add}
 use borrow.Author.Tests.{eq-eqb, eqb-true}
 use Rattle.counting.specs.Paper.Sum.{sumBelow}
 use Rattle.counting.specs.Paper.Joined.{joined, sameList}
-use Rattle.counting.proofs.Sums.{sum-next}
+use Rattle.counting.proofs.Sums.{sum-next, sum-cong, sum-const}
 use Rattle.counting.proofs.Searches.{never, and-left, and-right, and-both}
 
 module _ {A : Type 0} (f : ℕ → List A) where
@@ -41,6 +44,27 @@ module _ {A : Type 0} (f : ℕ → List A) where
     where
       within : j < k → sumBelow j (λ i. length (f i)) + q < length (joined k f)
       within m = omega (arith, length-joined k, sum-next j k (λ i. length (f i)) m)
+
+-- ---- parts that are equal, and parts of one length
+
+-- equal parts make equal lists
+pub joined-cong : {A : Type 0} (k : ℕ) (f g : ℕ → List A) → ((i : ℕ) → i < k → f i ≡ g i) → joined k f ≡ joined k g
+unfolding joined
+joined-cong zero f g h = refl
+joined-cong (suc k) f g h = rw (joined-cong k f g (λ i l. h i (omega arith)), h k (omega arith))
+
+-- k parts of w elements each have k * w together
+pub length-rows : {A : Type 0} (k w : ℕ) (f : ℕ → List A) → ((i : ℕ) → i < k → length (f i) ≡ w) → length (joined k f) ≡ k * w
+length-rows k w f h = length-joined f k ∙ sum-cong k h ∙ sum-const k w
+
+-- and element q of part j stands at j * w + q
+pub getD-rows : {A : Type 0} (k w : ℕ) (f : ℕ → List A) (d : A) → ((i : ℕ) → i < k → length (f i) ≡ w)
+    → (j q : ℕ) → j < k → q < w → getD (joined k f) (j * w + q) d ≡ getD (f j) q d
+getD-rows k w f d h j q l m =
+    let e : sumBelow j (λ i. length (f i)) ≡ j * w = sum-cong j (λ i b. h i (omega arith)) ∙ sum-const j w in
+    ap (λ (x : ℕ). getD (joined k f) (x + q) d) (sym e) ∙ getD-joined f k j q d l (omega (arith, h j l))
+
+-- ---- lists compared
 
 -- lists that compare equal are equal
 pub same-list : (a b : List ℕ) → sameList a b ≡ true → a ≡ b

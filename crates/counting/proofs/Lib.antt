@@ -2,6 +2,9 @@ pub mod Sums
 pub mod Ascending
 pub mod Searches
 pub mod Joined
+pub mod Chosen
+pub mod Least
+pub mod Residues
 pub mod Integers
 pub mod Stores
 pub mod Digits

@@ -7,7 +7,7 @@
 --   overlap-says, overlap-clear    == the test of refusal 5: what it says where it passes, and where it fails
 --   entries, weights, overlaps     == the tests of refusals 3, 4 and 5 decide their statements
 --   clear-below, clear-ascending   == a list without a bad entry is rows of ascending column numbers below n
---   rows-clear                     == and such rows have no bad entry
+--   entries-clear, rows-clear      == and such rows have no bad entry
 --   passes                         == a search of a test that decides a statement, which holds nowhere, lets the rest speak
 --   accepts                        == a matrix to which no refusal applies is accepted
 --   reads, reads-only              == the verdict of a matrix has its reading, and is the only one that has
@@ -225,34 +225,33 @@ module _ (H : Matrix) where
         ]
 
   -- and such rows have no bad entry: p is entry p % rho of row p / rho
-  pub rows-clear : Sizes H → Rows H → Never (BadEntry H) (length (H .list))
+  pub entries-clear : Sizes H → length (H .list) ≡ H .m * H .rho → ((i k : ℕ) → i < H .m → k < H .rho → entry H i k < H .n)
+      → ((i k : ℕ) → i < H .m → suc k < H .rho → entry H i k < entry H i (suc k)) → Never (BadEntry H) (length (H .list))
   unfolding entry
-  rows-clear s r p l bad = go bad
+  entries-clear s whole below up p l bad = go bad
     where
       some : 0 < H .rho
       some = omega (arith, s .rho-least)
 
       row : p / H .rho < H .m
-      row = div-lt-iff-lt-mul {k = H .rho} {x = p} {y = H .m} some .1 (omega (arith, r .whole))
+      row = div-lt-iff-lt-mul {k = H .rho} {x = p} {y = H .m} some .1 (omega (arith, whole))
 
       go : BadEntry H p → ⊥
-      go (inl h) =
-          omega (
-            arith,
-            r .below (p / H .rho) (p % H .rho) row (mod-lt p some),
-            ap (λ (x : ℕ). getD (H .list) x 0) (div-add-mod' p (H .rho)),
-          )
+      go (inl h) = omega (arith, below (p / H .rho) (p % H .rho) row (mod-lt p some), ap (λ (x : ℕ). getD (H .list) x 0) (div-add-mod' p (H .rho)))
       go (inr h) =
           let k : ℕ = p % H .rho - 1 in
           let here : p / H .rho * H .rho + suc k ≡ p = omega (arith, div-add-mod' p (H .rho), h .0) in
           let before : p / H .rho * H .rho + k ≡ p - 1 = omega (arith, here) in
           omega (
             arith,
-            r .ascending (p / H .rho) k row (omega (arith, mod-lt p some, h .0)),
+            up (p / H .rho) k row (omega (arith, mod-lt p some, h .0)),
             ap (λ (x : ℕ). getD (H .list) x 0) here,
             ap (λ (x : ℕ). getD (H .list) x 0) before,
             h .1,
           )
+
+  pub rows-clear : Sizes H → Rows H → Never (BadEntry H) (length (H .list))
+  rows-clear s r = entries-clear s (r .whole) (r .below) (r .ascending)
 
   -- no refusal applies: the matrix is accepted
   pub accepts : Sizes H → length (H .list) ≡ H .m * H .rho → Never (BadEntry H) (length (H .list)) → Never (BadWeight H) (H .n)

@@ -19,7 +19,7 @@ pub fn get_bit(w: &[u8], j: usize) -> u8
     (w[j / 8] >> (7 - j % 8)) & 1
 }
 
-// Sets bit j of a packed word, and changes no other: document 01's named form. No crate of this repository needs it yet.
+// Sets bit j of a packed word, and changes no other: document 01's named form. Only this repository's crates call it, with a bit that the word has.
 pub fn set_bit(w: &mut [u8], j: usize)
     requires { ⌜ j / 8 < length (now w) ⌝ }
     ensures { λ _. ⌜ SetBit (now (w .entry)) (now (w .exit)) j ⌝ }
