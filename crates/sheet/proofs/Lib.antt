@@ -1,0 +1,14 @@
+pub mod PlainSheet
+pub mod Entries
+pub mod Grids
+pub mod Order
+pub mod Weights
+pub mod Heavy
+pub mod MadeBytes
+pub mod MadeMap
+pub mod Made
+pub mod Described
+pub mod Alike
+pub mod Claims
+pub mod Ones
+pub mod Examples
