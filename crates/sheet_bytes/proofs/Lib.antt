@@ -1,0 +1,2 @@
+pub mod Maps
+pub mod Faults

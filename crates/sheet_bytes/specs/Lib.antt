@@ -1,0 +1,2 @@
+-- What the contracts of `sheet_bytes` cite.
+pub mod Parts

@@ -1,0 +1,4 @@
+pub mod Writing
+pub mod Lent
+pub mod Starting
+pub mod Listing

@@ -1,0 +1,2 @@
+-- What the contracts of `sheet_rows` cite.
+pub mod Parts
