@@ -1,0 +1,2 @@
+-- What the contracts of `sheet_blocks` cite.
+pub mod Parts

@@ -1,0 +1,2 @@
+-- What the contracts of `sheet_from_list` cite.
+pub mod Paper

@@ -1,0 +1,4 @@
+pub mod Joining
+pub mod Shifts
+pub mod Whole
+pub mod Marking

@@ -1,0 +1,2 @@
+-- What the contracts of `sheet_store` cite.
+pub mod Storing
