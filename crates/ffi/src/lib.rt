@@ -1,11 +1,12 @@
 // Exported functions for tests and benchmarks: each answer is one number of 64 bits.
-// Rests on every decoder, on `changed_bits` and on `ffi_codes`. Design, section 4: the test face.
+// Rests on every decoder, on `changed_bits`, on the calls for sheets and on `ffi_codes`. Design, section 4: the test face.
 use ffi_codes::RECORD_CELLS;
 use ffi_codes::answer_code;
 use ffi_codes::checked_code;
 use ffi_codes::counted_code;
 use ffi_codes::session_in;
 use ffi_codes::setting_of;
+use ffi_codes::stored_code;
 use ffi_codes::turn_code;
 use matrix_check::Shape;
 use quantiser_levels::Cell;
@@ -17,6 +18,9 @@ ghost use Rattle.matrix.specs.Paper.Check.{checkOf};
 ghost use Rattle.matrix_index.specs.Paper.Index.{indexOf, indexVerdict};
 ghost use Rattle.syndrome.specs.Paper.Failing.{failingOf};
 ghost use Rattle.changed_bits.specs.Paper.Call.{changedOf};
+ghost use Rattle.sheet.specs.Paper.SheetMatrix.{matrixOfSheet};
+ghost use Rattle.sheet.specs.Paper.MatrixSheet.{sheetOf};
+ghost use Rattle.sheet.specs.Paper.Calls.{sizesOf, toListVerdict, toListOf, toSheetVerdict, toSheetOf};
 ghost use Rattle.majority_logic.specs.Paper.OneStep.{oneStepVerdict, oneStepOf, oneStepWord};
 ghost use Rattle.one_step_indexed.specs.Paper.Call.{oneStepIndexedVerdict, oneStepIndexedOf};
 ghost use Rattle.session_asking.specs.Paper.Asked.{lent};
@@ -144,6 +148,36 @@ pub extern "C" fn mlgd_index(
     let shape = Shape { n, m, rho, gamma };
     let a = matrix_index_check::index(shape, list, index);
     checked_code(a)
+}
+
+// A sheet turned into sizes and list.
+#[no_mangle]
+pub extern "C" fn mlgd_sheet_to_list(sheet: &[u8], sizes: &mut [u16], list: &mut [u16]) -> u64
+    ensures answer { λ r. ⌜ r ≡ codeOf (toListOf (now (sheet .entry)) (length (now (sizes .entry))) (length (now (list .entry)))) ⌝ }
+    ensures sizes { λ r. ⌜ now (sizes .exit) ≡ written (toListVerdict (now (sheet .entry)) (length (now (sizes .entry))) (length (now (list .entry)))) (sizesOf (matrixOfSheet (now (sheet .entry)))) (now (sizes .entry)) ⌝ }
+    ensures list { λ r. ⌜ now (list .exit) ≡ written (toListVerdict (now (sheet .entry)) (length (now (sizes .entry))) (length (now (list .entry)))) (matrixOfSheet (now (sheet .entry)) .list) (now (list .entry)) ⌝ }
+{
+    let a = sheet_to_list::sheet_to_list(sheet, sizes, list);
+    checked_code(a)
+}
+
+// A list turned into its sheet with block size z.
+#[no_mangle]
+pub extern "C" fn mlgd_list_to_sheet(
+    n: u16,
+    m: u16,
+    rho: u16,
+    gamma: u16,
+    list: &[u16],
+    z: u16,
+    sheet: &mut [u8],
+) -> u64
+    ensures answer { λ r. ⌜ r ≡ codeOf (toSheetOf (matrix n m rho gamma (now (list .entry))) z (length (now (sheet .entry)))) ⌝ }
+    ensures sheet { λ r. ⌜ now (sheet .exit) ≡ written (toSheetVerdict (matrix n m rho gamma (now (list .entry))) z (length (now (sheet .entry)))) (sheetOf (matrix n m rho gamma (now (list .entry))) z) (now (sheet .entry)) ⌝ }
+{
+    let shape = Shape { n, m, rho, gamma };
+    let a = sheet_from_list::sheet_from_list(shape, list, z, sheet);
+    stored_code(a)
 }
 
 // One-step voting by matrix and index.
