@@ -14,6 +14,8 @@ pub mod rule;
 mod samples;
 #[cfg(feature = "session")]
 mod session;
+#[cfg(feature = "sheet")]
+mod sheets;
 mod subject;
 
 pub use guarded::{Cell, Guarded};
@@ -23,6 +25,8 @@ pub use indexed::Indexed;
 pub use samples::{bytes_for, quantise, quantise_exactly, Left};
 #[cfg(feature = "session")]
 pub use session::{Lent, WORKING};
+#[cfg(feature = "sheet")]
+pub use sheets::{sheet_refusal, store_refusal, LentSheet, Sheeted};
 pub use subject::{refusal, Subject};
 
 use generator::Random;

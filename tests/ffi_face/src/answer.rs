@@ -3,8 +3,9 @@ use std::fmt;
 
 /// The answer of an exported function: code + 2^32 × (rounds + 2^8 × (failing + 2^12 × changed)).
 ///
-/// The code is 0 for decoded, accepted, counted, quantised or built, 1 for failed, 2 for working,
-/// else the refusal's number × 65,536 + its place. A refusal has rounds, failing and changed 0.
+/// The code is 0 for decoded, accepted, counted, quantised, built, read or stored, 1 for failed, 2 for
+/// working, else the refusal's number × 65,536 + its place. A refusal has rounds, failing and changed
+/// 0. A stored sheet has its number of bytes in their place, 2^32 times.
 #[derive(Clone, Copy, PartialEq, Eq)]
 pub struct Packed(pub u64);
 
@@ -15,8 +16,8 @@ impl Packed {
         Packed(code + (1 << 32) * (rounds + (1 << 8) * (failing + (1 << 12) * changed)))
     }
 
-    /// What the library is to answer where the reference checks a matrix, quantises or builds an
-    /// index.
+    /// What the library is to answer where the reference checks a matrix, quantises, builds an index
+    /// or reads a sheet.
     pub fn of_check(answer: Result<(), Refusal>) -> Packed {
         answer.map_or_else(Packed::refused, |()| Packed::new(0, 0, 0, 0))
     }
@@ -29,6 +30,11 @@ impl Packed {
     /// The same for the count of changed bits.
     pub fn of_changed(answer: Result<usize, Refusal>) -> Packed {
         answer.map_or_else(Packed::refused, |changed| Packed::new(0, 0, 0, changed))
+    }
+
+    /// The same for a sheet that is stored in so many bytes.
+    pub fn of_stored(answer: Result<usize, Refusal>) -> Packed {
+        answer.map_or_else(Packed::refused, |bytes| Packed((bytes as u64) << 32))
     }
 
     /// The same for voting.
@@ -57,6 +63,11 @@ impl Packed {
     /// The refusal's place, or the outcome.
     pub fn place(self) -> u64 {
         self.0 % 65536
+    }
+
+    /// The bytes of a stored sheet.
+    pub fn bytes(self) -> usize {
+        (self.0 >> 32) as usize
     }
 }
 

@@ -2,8 +2,9 @@
 //!
 //! A slice crosses as two scalars, a pointer and the number of elements; a Rust slice in the
 //! declaration itself would be passed in another way. A later function is one declaration and
-//! one wrapper. The features `samples`, `session` and `index` declare the functions that start from
-//! samples, the session's, and those that build an index or are lent one.
+//! one wrapper. The features `samples`, `session`, `index` and `sheet` declare the functions that
+//! start from samples, the session's, those that build an index or are lent one, and those that read
+//! and write circulant sheets.
 
 mod answer;
 #[cfg(feature = "index")]
@@ -12,6 +13,8 @@ mod index;
 mod samples;
 #[cfg(feature = "session")]
 mod session;
+#[cfg(feature = "sheet")]
+mod sheet;
 
 pub use answer::Packed;
 #[cfg(feature = "index")]
@@ -21,6 +24,8 @@ use reference::Matrix;
 pub use samples::{iterative, quantise};
 #[cfg(feature = "session")]
 pub use session::{cells_of, open, record_of, step};
+#[cfg(feature = "sheet")]
+pub use sheet::{list_to_sheet, sheet_to_list};
 
 extern "C" {
     fn mlgd_check(n: u16, m: u16, rho: u16, gamma: u16, list: *const u16, list_len: usize) -> u64;

@@ -1,10 +1,11 @@
 //! The files in examples/: Tanner's code and a code of unlike columns as alist files, each with a
-//! dozen of its codewords received with noise; and document 003's (961, 721) code as an alist file.
+//! dozen of its codewords received with noise; document 003's (961, 721) code as an alist file; and
+//! this and Tanner's code as sheets, by the reference.
 
 use crate::codes::{qc961_721, tanner155, Code};
 use crate::unlike::irregular504;
 use crate::{alist, noise, settings, stream, Codewords, Random};
-use reference::Setting;
+use reference::{sheet_of_accepted, Setting};
 
 /// The setting as the tool `mlgd` reads it.
 pub const SETTING: &str = "bits 8 limit 64 level-step 0.1";
@@ -92,16 +93,26 @@ impl BlockSet {
     }
 }
 
+/// The block size of both sheets.
+pub const BLOCK_SIZE: u16 = 31;
+
+/// The sheet of a code.
+fn sheet(code: &Code) -> Vec<u8> {
+    sheet_of_accepted(&code.matrix, BLOCK_SIZE).expect("a grid of blocks of 31")
+}
+
 /// The files, by name.
-pub fn files() -> [(&'static str, String); 7] {
+pub fn files() -> [(&'static str, Vec<u8>); 9] {
     let (tanner, irregular) = (of_tanner155(), of_irregular504());
     [
-        ("tanner155.alist", alist::text(&tanner.code)),
-        ("blocks.csv", tanner.csv()),
-        ("expected.txt", tanner.expected()),
-        ("qc961.alist", alist::text(&qc961_721())),
-        ("irregular504.alist", alist::text(&irregular.code)),
-        ("irregular504.csv", irregular.csv()),
-        ("irregular504.txt", irregular.expected()),
+        ("tanner155.alist", alist::text(&tanner.code).into()),
+        ("tanner155.sheet", sheet(&tanner.code)),
+        ("blocks.csv", tanner.csv().into()),
+        ("expected.txt", tanner.expected().into()),
+        ("qc961.alist", alist::text(&qc961_721()).into()),
+        ("qc961.sheet", sheet(&qc961_721())),
+        ("irregular504.alist", alist::text(&irregular.code).into()),
+        ("irregular504.csv", irregular.csv().into()),
+        ("irregular504.txt", irregular.expected().into()),
     ]
 }

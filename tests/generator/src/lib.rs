@@ -1,6 +1,6 @@
 //! Inputs for the tests and the benchmark, the same for the same seed: accepted parity-check
-//! matrices of many kinds, their codewords, error patterns, noise, damaged matrices, and the
-//! program's input.
+//! matrices of many kinds, their codewords, error patterns, noise, damaged matrices, circulant
+//! sheets, and the program's input.
 
 pub mod alist;
 pub mod codes;
@@ -12,6 +12,7 @@ pub mod noise;
 pub mod patterns;
 pub mod random;
 pub mod settings;
+pub mod sheets;
 pub mod stream;
 pub mod unlike;
 

@@ -16,7 +16,7 @@ fn the_files_are_as_generated() {
         if std::env::var("WRITE_EXAMPLES").is_ok_and(|value| value == "1") {
             fs::write(&path, &contents).unwrap();
         }
-        let stored = fs::read_to_string(&path).unwrap_or_else(|error| panic!("{name}: {error}"));
+        let stored = fs::read(&path).unwrap_or_else(|error| panic!("{name}: {error}"));
         assert!(
             stored == contents,
             "examples/{name} is not what the generator makes: run this test with WRITE_EXAMPLES=1"

@@ -1,6 +1,7 @@
 //! Document 02, card 3: the iterative decoder as the firmware calls it, over numbers and bytes.
 
 use crate::matrix::sizes_fit;
+use crate::numbers::{number_bytes, numbers};
 use crate::quantiser::check_setting;
 use crate::{byte_count, check, iterative_accepted, Answer, Matrix, Outcome, Refusal, Setting};
 
@@ -25,14 +26,6 @@ pub struct Call<'a> {
 /// "An eight-byte report".
 const REPORT_BYTES: usize = 8;
 
-/// "low-byte-first 16-bit numbers". A last byte without a second one is no number.
-fn entries(bytes: &[u8]) -> Vec<u16> {
-    bytes
-        .chunks_exact(2)
-        .map(|pair| u16::from(pair[0]) + 256 * u16::from(pair[1]))
-        .collect()
-}
-
 /// "low-byte-first single floats". The last bytes, where fewer than four, are no sample.
 fn samples(bytes: &[u8]) -> Vec<f32> {
     let float = |four: &[u8]| {
@@ -53,7 +46,7 @@ pub fn check_bytes(call: &Call) -> Result<Matrix, Refusal> {
         m: call.m,
         rho: call.rho,
         gamma: call.gamma,
-        list: entries(call.list),
+        list: numbers(call.list),
     };
     if !sizes_fit(&h) {
         return Err(Refusal::plain(1));
@@ -87,14 +80,9 @@ fn level_byte(level: i8) -> u8 {
 
 /// "takes rounds, failing, changed and a zero, 16 bits each, low byte first."
 fn report_bytes(answer: &Answer) -> [u8; REPORT_BYTES] {
-    let mut bytes = [0; REPORT_BYTES];
     let numbers = [answer.rounds, answer.failing, answer.changed, 0];
-    for (at, number) in numbers.into_iter().enumerate() {
-        assert!(number < 65_536);
-        bytes[2 * at] = (number % 256) as u8;
-        bytes[2 * at + 1] = (number / 256) as u8;
-    }
-    bytes
+    let bytes = numbers.map(number_bytes).concat();
+    bytes.try_into().expect("two bytes a number")
 }
 
 /// Refusals 6 to 8, then iterative voting. Bytes beyond the first needed ones stay.

@@ -1,4 +1,4 @@
-//! The literal decoder of document 01 and of cards 1 to 4 of document 02, a second opinion for the
+//! The literal decoder of document 01 and of cards 1 to 5 of document 02, a second opinion for the
 //! tests.
 //!
 //! Each function is one passage of a document, done the slow way it is said: all rows are
@@ -14,11 +14,13 @@ pub mod firmware;
 mod index;
 mod iterative;
 mod matrix;
+mod numbers;
 mod one_step;
 mod program;
 mod quantiser;
 mod refusal;
 mod session;
+mod sheet;
 mod whole;
 mod word;
 
@@ -32,4 +34,8 @@ pub use program::program;
 pub use quantiser::{check_setting, hard_bit, largest_level, level, quantise, Setting};
 pub use refusal::Refusal;
 pub use session::{open, open_checked, step, step_checked, Session, State};
+pub use sheet::{
+    list_to_sheet, matrix_of_sheet, sheet_of, sheet_of_accepted, sheet_to_list, write_matrix,
+    write_sheet,
+};
 pub use word::{byte_count, pack, unpack};

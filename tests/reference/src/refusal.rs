@@ -1,5 +1,6 @@
 /// "Refused for the input": "Each has a place, 0 unless named." Document 02 adds 10, "an index that
-/// is not exactly the matrix's own or a buffer too short to build it in", whose place is 0.
+/// is not exactly the matrix's own or a buffer too short to build it in", 11, "bytes that are not a
+/// sheet", and 12, "Z is 0 or no sheet with that Z describes the list", whose places are 0.
 #[derive(Clone, Copy, Debug, PartialEq, Eq)]
 pub struct Refusal {
     pub number: u16,
