@@ -8,6 +8,7 @@ mod changed;
 mod face;
 mod indexed;
 mod programs;
+mod sheets;
 
 use bench::clock::cpu_microseconds;
 use bench::optimised;
@@ -227,5 +228,6 @@ fn main() {
     indexed::measure(turns);
     face::measure(turns);
     changed::measure(turns);
+    sheets::measure(turns);
     programs::measure(turns.div_ceil(PROGRAM_SHARE));
 }

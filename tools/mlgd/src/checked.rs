@@ -1,5 +1,5 @@
 //! What the proved library says, in words: the matrix check, the check of a setting, one-step
-//! voting. No verdict is formed here; a refusal is only looked up in the file.
+//! voting, circulant sheets. No verdict is formed here; a refusal is only looked up in the file.
 
 use crate::amount::counted;
 use crate::fault::Fault;
@@ -45,26 +45,31 @@ fn at(file: &MatrixFile, place: Option<At>, what: String, remedy: &str) -> Fault
     }
 }
 
+/// The first of n, m, rho and gamma that is out of its range: which one, and what to say of it.
+pub(crate) fn out_of_range(sizes: [usize; 4]) -> Option<(usize, String)> {
+    let ranges = [
+        ("n", 2..=1023, "columns"),
+        ("m", 1..=1023, "rows"),
+        ("rho", 2..=32, "ones in each row"),
+        ("gamma", 1..=32, "ones in each column"),
+    ];
+    let mut all = ranges.into_iter().zip(sizes).enumerate();
+    all.find_map(|(k, ((size, range, what), value))| {
+        let (least, most) = (range.start(), range.end());
+        let said = format!("{size} is {value}: the decoder takes {least} to {most} {what}");
+        (!range.contains(&value)).then_some((k, said))
+    })
+}
+
 /// Refusal 1: which size it is.
 fn sizes(file: &MatrixFile) -> Fault {
     let h = &file.matrix;
-    for (k, (size, value, least, most, what)) in [
-        ("n", h.n, 2, 1023, "columns"),
-        ("m", h.m, 1, 1023, "rows"),
-        ("rho", h.rho, 2, 32, "ones in each row"),
-        ("gamma", h.gamma, 1, 32, "ones in each column"),
-    ]
-    .into_iter()
-    .enumerate()
-    {
-        if size == "gamma" && value == 0 && file.sizes[k].is_none() {
+    if let Some((k, what)) = out_of_range([h.n, h.m, h.rho, h.gamma].map(usize::from)) {
+        if k == 3 && h.gamma == 0 && file.sizes[k].is_none() {
             let nowhere = h.weights().iter().position(|&weight| weight == 0);
             return weight(file, nowhere.unwrap_or(0));
         }
-        if !(least..=most).contains(&value) {
-            let what = format!("{size} is {value}: the decoder takes {least} to {most} {what}");
-            return at(file, file.sizes[k], what, "take another code");
-        }
+        return at(file, file.sizes[k], what, "take another code");
     }
     let ones = |a: u16, b: u16| u32::from(a) * u32::from(b);
     let (rows, columns) = (ones(h.m, h.rho), ones(h.n, h.gamma));
@@ -169,10 +174,58 @@ fn overlap(file: &MatrixFile, row: usize) -> Fault {
         file.line_of_row(other),
         shared(other).join(" and ")
     );
-    let remedy = "take another code: with two columns in common the promise does not hold";
     Fault::new(&file.file, what)
         .line(file.line_of_row(row))
-        .remedy(remedy)
+        .remedy(OVERLAP_REMEDY)
+}
+
+pub(crate) const OVERLAP_REMEDY: &str =
+    "take another code: with two columns in common the promise does not hold";
+
+/// The entries of the longest list, 1,023 × 32.
+const MOST_ENTRIES: usize = 32_736;
+
+/// The bytes of the longest sheet of an accepted matrix: 1,023 × 1,023 places, 1,023 × 32 shifts.
+pub(crate) const MOST_SHEET_BYTES: usize = 196_295;
+
+/// The matrix of a circulant sheet, by the proved call. The refusal's number and place where it is
+/// refused.
+pub(crate) fn matrix_of_sheet(bytes: &[u8]) -> Result<Matrix, (u64, usize)> {
+    let (mut sizes, mut list) = ([0; 4], vec![0; MOST_ENTRIES]);
+    let answer = ffi_face::sheet_to_list(bytes, &mut sizes, &mut list);
+    if answer.refusal() != 0 {
+        return Err((answer.refusal(), answer.place() as usize));
+    }
+    let [n, m, rho, gamma] = sizes;
+    list.truncate(usize::from(m) * usize::from(rho));
+    Ok(Matrix {
+        n,
+        m,
+        rho,
+        gamma,
+        list,
+    })
+}
+
+/// The sheet of an accepted matrix with blocks of z × z, by the proved call, if it is such a grid.
+fn sheet_of(matrix: &Matrix, z: u16) -> Option<Vec<u8>> {
+    let mut bytes = vec![0; MOST_SHEET_BYTES];
+    let answer = ffi_face::list_to_sheet(matrix.into(), z, &mut bytes);
+    bytes.truncate(answer.bytes());
+    (answer.refusal() == 0).then_some(bytes)
+}
+
+/// The same of a file's matrix. Where there is none, the largest z that has one is told.
+pub fn sheet(file: &MatrixFile, z: u16) -> Result<Vec<u8>, Fault> {
+    let h = &file.matrix;
+    sheet_of(h, z).ok_or_else(|| {
+        let divides = |z: &u16| h.n.is_multiple_of(*z) && h.m.is_multiple_of(*z);
+        let mut divisors = (1..=h.n.min(h.m)).rev().filter(divides);
+        let largest = divisors.find(|&z| sheet_of(h, z).is_some());
+        let what = format!("this matrix is no grid of zeros and shifted identities of {z} × {z}");
+        let remedy = format!("with --z {} it is one", largest.unwrap_or(1));
+        Fault::new(&file.file, what).remedy(remedy)
+    })
 }
 
 /// A setting that the proved check accepts, from an option's value: by the quantiser on no

@@ -23,7 +23,8 @@ mlgd decode --one-step --matrix M (--words W | --samples X.csv) --out R.csv [opt
 Decodes blocks of samples by the proved program, and writes a table with a line for each block:
 line, block, outcome, rounds, failing, changed, wrong_bits, within_half, reason, word.
 
---matrix M        alist, a list with sizes, bare rows, or zeros and ones (see mlgd matrix --help)
+--matrix M        alist, a list with sizes, bare rows, zeros and ones, or a sheet (see mlgd matrix
+                  --help)
 --setting S       words such as \"bits 8 limit 64 level-step 0.1\" (or full-scale 4), or a file
                   with them
 --samples X       numbers, n to a block: CSV with , or ; or tabs, or blanks; - is standard input.

@@ -4,23 +4,25 @@ use crate::arguments::{asks_help, Arguments, Known};
 use crate::checked;
 use crate::fault::Fault;
 use crate::matrix_file::MatrixFile;
-use crate::output::{keep_apart, print, tell, whole};
+use crate::output::{is_terminal, keep_apart, print, tell, whole_bytes};
 use crate::status::Status;
 
 pub const USAGE: &str = "\
-mlgd matrix M [--to alist|list|rows] [--out FILE] [--from-one]
+mlgd matrix M [--to alist|list|rows|sheet] [--z Z] [--out FILE] [--from-one]
 
 Says n, m, rho, gamma and the guaranteed number t of a parity-check matrix, and whether the proved
 check accepts it. Rows have one weight, rho; columns may have unlike weights, and gamma is the
 smallest of them. M is
   an alist file (MacKay's, with or without zeros at the ends of lines),
   a list: n m rho gamma, then the columns of each row, counted from 0,
-  bare rows: the columns of each row, counted from 0, or
-  zeros and ones, a line for each row, with or without blanks.
+  bare rows: the columns of each row, counted from 0,
+  zeros and ones, a line for each row, with or without blanks, or
+  a sheet, if its name ends in .sheet: a grid of blocks, zeros and shifted identities, as bytes.
 
 --to alist        writes it as an alist file, to standard output or FILE
 --to list         as a list with its sizes
 --to rows         as bare rows
+--to sheet --z Z  as a sheet with blocks of Z × Z, if it is such a grid; with --z 1 any matrix is
 --from-one        a list or bare rows count columns from 1
 
 Status 0: accepted; 2: refused, with line, field and remedy on standard error.
@@ -28,7 +30,7 @@ Status 0: accepted; 2: refused, with line, field and remedy on standard error.
 
 const KNOWN: Known = Known {
     command: "mlgd matrix",
-    values: &["--to", "--out"],
+    values: &["--to", "--z", "--out"],
     flags: &["--from-one"],
     files: 1,
 };
@@ -43,12 +45,45 @@ fn verdict(file: &MatrixFile) -> String {
     format!("{}: {summary}{unlike}: accepted ({form})", file.file)
 }
 
+/// Refuses --z without a sheet, and a sheet that a terminal would show.
+fn refuse_misused(arguments: &Arguments) -> Result<(), Fault> {
+    let to_sheet = arguments.value("--to") == Some("sheet");
+    if !to_sheet && arguments.value("--z").is_some() {
+        return Err(arguments.misused("--z goes with --to sheet"));
+    }
+    if to_sheet && is_terminal(arguments.value("--out")) {
+        return Err(arguments.misused("a sheet is no text for a terminal: give --out"));
+    }
+    Ok(())
+}
+
+/// The matrix in the form that --to names.
+fn converted(file: &MatrixFile, to: &str, arguments: &Arguments) -> Result<Vec<u8>, Fault> {
+    let text = match to {
+        "list" => Some(file.matrix.plain()),
+        "rows" => Some(file.matrix.bare_rows()),
+        "alist" => file.matrix.alist(),
+        "sheet" => {
+            let z = arguments.needed_number("--z", 1..=65_535)?;
+            return checked::sheet(file, z as u16);
+        }
+        _ => {
+            let what = format!("--to is alist, list, rows or sheet, and not `{to}`");
+            return Err(arguments.misused(what));
+        }
+    };
+    let no_form = || Fault::new(&file.file, "this matrix has no such form").remedy("try --to list");
+    text.map(String::into_bytes).ok_or_else(no_form)
+}
+
 pub fn run(words: &[String]) -> Result<Status, Fault> {
     if asks_help(words) {
         return print(USAGE).map(|()| Status::Done);
     }
     let arguments = Arguments::read(words, &KNOWN)?;
     let name = arguments.needed_file("the matrix's file")?;
+    let out = arguments.value("--out");
+    refuse_misused(&arguments)?;
     let file = MatrixFile::open(name, arguments.flag("--from-one"))?;
     checked::matrix(&file)?;
     let verdict = verdict(&file);
@@ -56,17 +91,9 @@ pub fn run(words: &[String]) -> Result<Status, Fault> {
         print(&format!("{verdict}\n"))?;
         return Ok(Status::Done);
     };
-    let text = match to {
-        "list" => Some(file.matrix.plain()),
-        "rows" => Some(file.matrix.bare_rows()),
-        "alist" => file.matrix.alist(),
-        _ => return Err(arguments.misused(format!("--to is alist, list or rows, and not `{to}`"))),
-    };
-    let no_form = || Fault::new(&file.file, "this matrix has no such form").remedy("try --to list");
-    let text = text.ok_or_else(no_form)?;
-    let out = arguments.value("--out");
+    let contents = converted(&file, to, &arguments)?;
     keep_apart(&[out], &[Some(name)])?;
-    whole(out, &text)?;
+    whole_bytes(out, &contents)?;
     tell(verdict);
     Ok(Status::Done)
 }

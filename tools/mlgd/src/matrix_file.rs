@@ -1,10 +1,12 @@
-//! A parity-check matrix from a file: alist, a plain list with its sizes, bare rows, or zeros and
-//! ones. Whether it is accepted is for the proved check to say: see [`crate::checked`].
+//! A parity-check matrix from a file: alist, a plain list with its sizes, bare rows, zeros and ones,
+//! or a circulant sheet. Whether it is accepted is for the proved check to say: see
+//! [`crate::checked`].
 
 mod alist;
 mod dense;
 mod list;
 mod rows;
+mod sheet;
 mod write;
 
 use crate::fault::Fault;
@@ -60,15 +62,21 @@ pub enum Form {
     Rows,
     /// Zeros and ones.
     Dense,
+    /// Blocks that are zeros or shifted identities: so many block rows, block columns, and their
+    /// size.
+    Sheet([u16; 3]),
 }
 
 impl Form {
-    pub fn shown(self) -> &'static str {
+    pub fn shown(self) -> String {
         match self {
-            Form::Alist => "alist",
-            Form::List => "a list with sizes",
-            Form::Rows => "rows without sizes",
-            Form::Dense => "zeros and ones",
+            Form::Alist => "alist".into(),
+            Form::List => "a list with sizes".into(),
+            Form::Rows => "rows without sizes".into(),
+            Form::Dense => "zeros and ones".into(),
+            Form::Sheet([rows, columns, size]) => {
+                format!("a sheet of {rows} × {columns} blocks of {size}")
+            }
         }
     }
 }
@@ -94,23 +102,23 @@ impl MatrixFile {
     /// Reads a file of any form. With `from_one` the columns of a list or of bare rows are
     /// counted from 1.
     pub fn open(file: &str, from_one: bool) -> Result<MatrixFile, Fault> {
+        if sheet::is_named(file) {
+            let read = sheet::open(file)?;
+            refuse_from_one(file, read.form, from_one)?;
+            return Ok(read);
+        }
         MatrixFile::read(&Text::open(file)?, from_one)
     }
 
+    /// Reads a file of any form that is text.
     pub(crate) fn read(text: &Text, from_one: bool) -> Result<MatrixFile, Fault> {
         let form = form_of(text)?;
-        if from_one && matches!(form, Form::Alist | Form::Dense) {
-            let what = format!(
-                "this file is {}, which --from-one does not fit",
-                form.shown()
-            );
-            return Err(Fault::new(&text.file, what).remedy("leave --from-one out"));
-        }
+        refuse_from_one(&text.file, form, from_one)?;
         match form {
             Form::Alist => alist::read(text),
             Form::List => list::read(text, from_one),
-            Form::Rows => rows::read(text, from_one),
             Form::Dense => dense::read(text),
+            _ => rows::read(text, from_one),
         }
     }
 
@@ -131,6 +139,16 @@ impl MatrixFile {
         let (n, m, rho, gamma, t) = (h.n, h.m, h.rho, h.gamma, h.guaranteed());
         format!("n {n}, m {m}, rho {rho}, gamma {gamma}, t {t}")
     }
+}
+
+/// Refuses --from-one where the form says from what columns are counted.
+fn refuse_from_one(file: &str, form: Form, from_one: bool) -> Result<(), Fault> {
+    if !from_one || matches!(form, Form::List | Form::Rows) {
+        return Ok(());
+    }
+    let form = form.shown();
+    let what = format!("this file is {form}, which --from-one does not fit");
+    Err(Fault::new(file, what).remedy("leave --from-one out"))
 }
 
 /// A line's fields as numbers, if all are; one that is too large for any size is the largest.

@@ -3,7 +3,7 @@
 
 use crate::fault::Fault;
 use std::fs::{self, File};
-use std::io::{self, BufWriter, ErrorKind, Write};
+use std::io::{self, BufWriter, ErrorKind, IsTerminal, Write};
 use std::path::{Path, PathBuf};
 
 /// An output that is whole when [`Output::finish`] says so.
@@ -110,11 +110,21 @@ fn not_written(name: &str, error: &io::Error, file: bool) -> Fault {
     ))
 }
 
-/// Writes a text in one go, to standard output for none and for `-`.
-pub fn whole(file: Option<&str>, text: &str) -> Result<(), Fault> {
+/// Whether an output of that name goes to a terminal: standard output for none and for `-`.
+pub fn is_terminal(file: Option<&str>) -> bool {
+    file.is_none_or(|file| file == "-") && io::stdout().is_terminal()
+}
+
+/// Writes bytes in one go, to standard output for none and for `-`.
+pub fn whole_bytes(file: Option<&str>, bytes: &[u8]) -> Result<(), Fault> {
     let mut output = Output::create(file)?;
-    output.write(text.as_bytes())?;
+    output.write(bytes)?;
     output.finish()
+}
+
+/// The same with a text.
+pub fn whole(file: Option<&str>, text: &str) -> Result<(), Fault> {
+    whole_bytes(file, text.as_bytes())
 }
 
 /// Prints a text.

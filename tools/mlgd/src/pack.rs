@@ -5,11 +5,10 @@ use crate::arguments::{asks_help, Arguments, Known};
 use crate::decode::{accepted, form, nothing_in, once_standard_input, INPUTS};
 use crate::fault::Fault;
 use crate::lines::shown;
-use crate::output::{keep_apart, print, tell, Output};
+use crate::output::{is_terminal, keep_apart, print, tell, Output};
 use crate::samples_file::SamplesFile;
 use crate::status::Status;
 use crate::{checked, stream};
-use std::io::{stdout, IsTerminal};
 
 pub const USAGE: &str = "\
 mlgd pack --matrix M --setting S --samples X.csv --out INPUT [options]
@@ -51,7 +50,7 @@ pub fn run(words: &[String]) -> Result<Status, Fault> {
     let out = arguments.value("--out");
     let inputs = INPUTS.map(|name| arguments.value(name));
     keep_apart(&[out], &inputs)?;
-    if out.is_none_or(|out| out == "-") && stdout().is_terminal() {
+    if is_terminal(out) {
         return Err(arguments.misused("the input is no text for a terminal: give --out"));
     }
     let mut packing = Packing {

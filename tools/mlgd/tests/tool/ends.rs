@@ -246,7 +246,23 @@ fn command_lines_that_cannot_be_followed() {
         ),
         (
             &["matrix", "h", "--to", "x"],
-            "mlgd matrix: --to is alist, list or rows, and not `x`, see mlgd matrix --help\n",
+            "mlgd matrix: --to is alist, list, rows or sheet, and not `x`, see mlgd matrix --help\n",
+        ),
+        (
+            &["matrix", "h", "--to", "sheet"],
+            "mlgd matrix: --z is missing, see mlgd matrix --help\n",
+        ),
+        (
+            &["matrix", "h", "--to", "sheet", "--z", "0"],
+            "mlgd matrix: --z is 1 to 65535, and not `0`, see mlgd matrix --help\n",
+        ),
+        (
+            &["matrix", "h", "--to", "list", "--z", "7"],
+            "mlgd matrix: --z goes with --to sheet, see mlgd matrix --help\n",
+        ),
+        (
+            &["matrix", "h", "--z", "7"],
+            "mlgd matrix: --z goes with --to sheet, see mlgd matrix --help\n",
         ),
     ] {
         let ran = folder.run(words);

@@ -9,5 +9,6 @@ mod memory;
 mod messages;
 mod pictures;
 mod round_trips;
+mod sheets;
 mod table;
 mod unlike;
