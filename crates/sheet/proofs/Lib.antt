@@ -11,4 +11,5 @@ pub mod Described
 pub mod Alike
 pub mod Claims
 pub mod Ones
+pub mod Exactly
 pub mod Examples

@@ -9,16 +9,16 @@
 --   startBy, shiftBy                == where the block of an entry starts, and how far behind the entry stands
 --   start-is, shift-is              == what the code stores is that
 --   split-done                      == what was written is the first row, split
---   ascend-none, ascend-step        == one number ascends, and one more does
---   ascend-less, ascend-fails       == so do the first of them, and not where one does not
---   ascend-apart, apart-ascend      == blocks start one behind the other exactly where no two entries stand in one
 --   shift-near, start-low           == shifts are below the block size, blocks start below 1,023
 --   turned-is                       == a block's start and the turned shift are the turned entry
 --   strays-most                     == there are at most as many strays as entries
 --   stray-step                      == one entry more in the count
 --   follows-none, follows-step      == no row yet, and a row without strays
 --   follows-fails                   == a row that has some
---   stands-says                     == a block row stands where its blocks are one behind the other and its rows follow
+--   row-at-start                    == in one of the rows an entry stands at the start of its block
+--   turned-apart                    == entries that ascend in all rows stand in blocks that ascend
+--   follows-apart                   == so no two entries of a first row that the others follow stand in one block
+--   stands-says                     == and a block row stands exactly where its rows follow
 --   grid-of                         == where blocks fill the matrix and every block row stands it is a grid
 --   grid-stands, grid-filled        == and a grid is that
 --   says-so, says-not               == what `describes` says where the matrix is a grid, and where it is none
@@ -39,6 +39,7 @@ use mir.Val.{boolByte}
 use Rattle.counting.specs.Paper.Sum.{sumBelow, unequal}
 use Rattle.counting.specs.Paper.Lists.{listed, over}
 use Rattle.counting.specs.Places.{at}
+use Rattle.counting.proofs.Residues.{wrap-low, wrap-high}
 use Rattle.counting.proofs.Searches.{never, cases, and-left, and-right, and-both}
 use Rattle.counting.proofs.Sums.{byte-flag, sum-zero, sum-bound, sum-term, differ-eq, differ-le, differ-zero}
 use Rattle.counting.proofs.Writes.{over-at}
@@ -49,7 +50,7 @@ use Rattle.matrix.proofs.Rows.{in-list}
 use Rattle.sheet.specs.Paper.MatrixSheet.{describes}
 use Rattle.sheet.specs.Parts.{Grid, firstEntry, turned}
 use Rattle.sheet.proofs.Described.{grid-describes, describes-grid}
-use Rattle.sheet_blocks.specs.Parts.{Says, Filled, Ready, Split, Ascend, Apart, Follows, Stands, Turning, strays}
+use Rattle.sheet_blocks.specs.Parts.{Says, Filled, Ready, Split, Apart, Follows, Stands, Turning, strays}
 
 -- ---- answers
 
@@ -148,59 +149,6 @@ split-done H Z r a a₀ b b₀ e f =
       shift = λ k h. over-at (H .rho) (shiftBy (H .list) Z (r * Z * H .rho)) b₀ b f 0 k h;
     }
 
--- ---- blocks one behind the other
-
-module _ (l : List ℕ) where
-  -- one number ascends
-  pub ascend-none : Ascend 1 l
-  unfolding Ascend
-  ascend-none x h = absurd (omega arith)
-
-  -- one more
-  pub ascend-step : (k : ℕ) → 1 ≤ k → Ascend k l → at l (k - 1) < at l k → Ascend (k + 1) l
-  unfolding Ascend
-  ascend-step k h all here x g =
-      elim (ℕ-discrete (suc x) k) [
-        | yes e ↦ let f : k - 1 ≡ x = omega arith in omega (arith, here, ap (at l) f, ap (at l) e)
-        | no ne ↦ all x (omega arith)
-      ]
-
-  -- all of them where more do
-  pub ascend-less : (rho k : ℕ) → rho ≤ k → Ascend k l → Ascend rho l
-  unfolding Ascend
-  ascend-less rho k h all x g = all x (omega arith)
-
-  -- one that does not
-  pub ascend-fails : (k rho : ℕ) → 1 ≤ k → k < rho → at l k ≤ at l (k - 1) → Ascend rho l → ⊥
-  unfolding Ascend
-  ascend-fails k rho h g bad all =
-      let e : suc (k - 1) ≡ k = omega arith in
-      let up : at l (k - 1) < at l (suc (k - 1)) = all (k - 1) (omega arith) in
-      omega (arith, rw e at up)
-
--- the blocks in which two entries stand start one behind the other exactly where they are not one
-blocks-up : (Z a b : ℕ) → a * Z < b * Z → a < b
-blocks-up Z a b h = elim (decLt a b) [ yes l ↦ l | no n ↦ absurd (omega (arith, mul-le-mul {n₁ = b} {m₁ = Z} {n₂ = a} {m₂ = Z} (omega arith) (omega arith))) ]
-
-starts-up : (Z a b : ℕ) → 0 < Z → a < b → a * Z < b * Z
-starts-up Z a b h l = omega (arith, digits-lt {q = a} {m = b} {r = 0} {c = Z} l h)
-
-module _ {H : Matrix} {Z r : ℕ} {starts shifts : List ℕ} (p : Split H Z r starts shifts) where
-  pub ascend-apart : Ascend (H .rho) starts → Apart H Z r
-  unfolding Ascend Apart
-  ascend-apart up k h =
-      blocks-up Z (firstEntry H Z r k / Z) (firstEntry H Z r (suc k) / Z) (omega (arith, up k h, p .start k (omega arith), p .start (suc k) h))
-
-  pub apart-ascend : 0 < Z → Apart H Z r → Ascend (H .rho) starts
-  unfolding Ascend Apart
-  apart-ascend some up k h =
-      omega (
-        arith,
-        starts-up Z (firstEntry H Z r k / Z) (firstEntry H Z r (suc k) / Z) some (up k h),
-        p .start k (omega arith),
-        p .start (suc k) h,
-      )
-
 module _ {H : Matrix} {Z r : ℕ} {starts shifts : List ℕ} (t : Turning H Z r starts shifts) where
   -- the shifts are below the block size
   pub shift-near : (k : ℕ) → k < H .rho → at shifts k < Z
@@ -255,11 +203,37 @@ module _ (H : Matrix) (Z r : ℕ) where
 
 -- ---- the parts together
 
--- with the blocks one behind the other, a block row stands exactly where its rows follow
-pub stands-says : {H : Matrix} {Z r : ℕ} {starts shifts : List ℕ} (b : Bool) → Split H Z r starts shifts → Ascend (H .rho) starts
-    → Says (Follows H Z r Z) b → Says (Stands H Z r) b
-stands-says b p up f =
-    record { so = λ e. record { apart = ascend-apart p up; follows = f .so e }; not-so = λ e s. f .not-so e (s .follows) }
+-- in one of the rows an entry stands at the start of its block
+row-at-start : (Z s : ℕ) → s < Z → (i : ℕ) × (i < Z) × ((i + s) % Z ≡ 0)
+row-at-start Z s h =
+    elim (ℕ-discrete s 0) [
+      | yes e ↦ (0, omega arith, omega (arith, wrap-low Z (0 + s) (omega arith)))
+      | no ne ↦ (Z - s, omega arith, omega (arith, wrap-high Z (Z - s + s) (omega arith) (omega arith)))
+    ]
+
+-- in that row an entry before it stands in a block before its own
+turned-apart : (Z a b : ℕ) → 0 < Z → ((i : ℕ) → i < Z → turned Z a i < turned Z b i) → a / Z < b / Z
+unfolding turned
+turned-apart Z a b some up =
+    elim (decLt (a / Z) (b / Z)) [
+      | yes l ↦ l
+      | no n ↦
+          let w = row-at-start Z (b % Z) (mod-lt b some) in
+          let le : b / Z * Z ≤ a / Z * Z = mul-le-mul {n₁ = b / Z} {m₁ = Z} {n₂ = a / Z} {m₂ = Z} (omega arith) (omega arith) in
+          absurd (omega (arith, up (w .0) (w .1), w .2, le))
+    ]
+
+-- no two entries of a first row that the others follow stand in one block, as every row ascends
+follows-apart : {H : Matrix} {Z : ℕ} → Ready H Z → (r : ℕ) → r < H .m / Z → Follows H Z r Z → Apart H Z r
+unfolding Follows Apart
+follows-apart {H} {Z} y r l f k h =
+    turned-apart Z (firstEntry H Z r k) (firstEntry H Z r (suc k)) (y .filled .some)
+    (λ i g. omega (arith, f i k g (omega arith), f i (suc k) g h, y .accepted .rows .ascending (r * Z + i) k (row-in y r i l g) h))
+
+-- a block row stands exactly where its rows follow
+pub stands-says : {H : Matrix} {Z r : ℕ} (b : Bool) → Ready H Z → r < H .m / Z → Says (Follows H Z r Z) b → Says (Stands H Z r) b
+stands-says {r = r} b y l f =
+    record { so = λ e. record { apart = follows-apart y r l (f .so e); follows = f .so e }; not-so = λ e s. f .not-so e (s .follows) }
 
 -- a grid is filled by blocks, and every block row stands
 pub grid-of : (H : Matrix) (Z : ℕ) → Filled (H .n) (H .m) Z → ((r : ℕ) → r < H .m / Z → Stands H Z r) → Grid H Z

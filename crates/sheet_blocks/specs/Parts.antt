@@ -3,7 +3,6 @@
 --   Filled n m Z           == Z is not 0, and blocks of that size fill n columns and m rows
 --   Ready H Z              == an accepted matrix that they fill
 --   Split H Z r a b        == a has where the blocks with the first entries of block row r start, b how far behind each entry stands
---   Ascend k l             == the first k numbers of l ascend
 --   Apart H Z r            == no two entries of the first row of block row r stand in one block
 --   Follows H Z r x        == the first x rows of block row r are its first row, turned
 --   Stands H Z r           == both, of all its rows
@@ -40,10 +39,6 @@ pub record Ready (H : Matrix) (Z : ℕ) : Type 0 where
 pub record Split (H : Matrix) (Z r : ℕ) (starts shifts : List ℕ) : Type 0 where
   pub start : (k : ℕ) → k < H .rho → at starts k ≡ firstEntry H Z r k / Z * Z
   pub shift : (k : ℕ) → k < H .rho → at shifts k ≡ firstEntry H Z r k % Z
-
--- the first k numbers of a list ascend
-unfoldable pub Ascend : ℕ → List ℕ → Type 0
-Ascend k l = (x : ℕ) → suc x < k → at l x < at l (suc x)
 
 -- no two entries of the first row of block row r stand in one block
 unfoldable pub Apart : Matrix → ℕ → ℕ → Type 0

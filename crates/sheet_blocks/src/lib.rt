@@ -1,14 +1,14 @@
 // Refusal 12 as one question: whether an accepted matrix is a grid of blocks of size z, each zero or a shifted identity.
 // Rests on `sheet` and `matrix_check`. Document 02: card 5.
 use matrix_check::Shape;
-ghost use Prim.Native.Nat.{_+_, _/_, _%_, _≤_, _<_};
+ghost use Prim.Native.Nat.{_+_, _/_, _%_, _<_};
 ghost use mathlib.Core.Path.{_≡_};
 ghost use lib.ListN.{length};
 ghost use Rattle.counting.specs.Paper.Sum.{sumBelow};
 ghost use Rattle.matrix.specs.Paper.PlainCheck.{Accepted};
 ghost use Rattle.matrix.specs.Paper.Shapes.{matrixOf};
 ghost use Rattle.sheet.specs.Paper.MatrixSheet.{describes};
-ghost use Rattle.sheet_blocks.specs.Parts.{Says, Filled, Ready, Split, Ascend, Follows, Stands, Turning, strays};
+ghost use Rattle.sheet_blocks.specs.Parts.{Says, Filled, Ready, Split, Follows, Stands, Turning, strays};
 
 // Whether z is not 0 and blocks of that size fill the columns and the rows.
 fn whole_blocks(n: u16, m: u16, z: u16) -> bool
@@ -44,21 +44,6 @@ fn split_row(
     }
 }
 
-// Whether each block starts behind the one before it, so that no block has two entries of the row.
-fn ascend(rho: usize, starts: &[u16; 32]) -> bool
-    requires { ⌜ rho ≤ 32 ⌝ }
-    ensures { λ x. ⌜ Says (Ascend rho (now (starts .entry))) x ⌝ }
-{
-    let mut k = 1;
-    while k < rho {
-        if starts[k] <= starts[k - 1] {
-            return false;
-        }
-        k += 1;
-    }
-    true
-}
-
 // How far behind the block's start the one stands i rows further down: behind the block's end it goes on at the start.
 fn turn(shift: u16, i: u16, z: u16) -> u16
     requires { ⌜ (shift < z) × (i < z) ⌝ }
@@ -71,7 +56,7 @@ fn turn(shift: u16, i: u16, z: u16) -> u16
     shift - left
 }
 
-// How many entries of row i of block row r are not those of its first row, turned by i. Counted without a branch or a division.
+// How many entries of row i of block row r are not those of its first row, turned by i. Counted without a division.
 fn row_strays(
     shape: Shape,
     list: &[u16],
@@ -117,7 +102,7 @@ fn rows_follow(
     true
 }
 
-// Whether block row r is a row of zero and shifted identity blocks.
+// Whether block row r is a row of zero and shifted identity blocks. Where its rows follow, no block has two entries of a row: the rows ascend.
 fn block_row(shape: Shape, list: &[u16], z: u16, r: usize) -> bool
     requires { ⌜ Ready (matrixOf shape (now list)) z × (r < shape .m / z) ⌝ }
     ensures { λ x. ⌜ Says (Stands (matrixOf shape (now (list .entry))) z r) x ⌝ }
@@ -125,9 +110,6 @@ fn block_row(shape: Shape, list: &[u16], z: u16, r: usize) -> bool
     let mut starts = [0u16; 32];
     let mut shifts = [0u16; 32];
     split_row(shape, list, z, r, &mut starts, &mut shifts);
-    if !ascend(shape.rho as usize, &starts) {
-        return false;
-    }
     rows_follow(shape, list, z, r, &starts, &shifts)
 }
 

@@ -3,7 +3,8 @@
 --   rowUnlike                                == whether a block row has another number of set places than the first
 --   unlike-first, like-row                   == the first has not, nor has one with as many
 --   unlike-found, unlike-none                == block rows are unlike where one is unlike the first, and only there
---   wrong-is                                 == where they are alike the first one tells whether the length is wrong
+--   wrong-is                                 == the length by the first one, as the code asks it
+--   first-says                               == where they are alike the first one tells whether the length is wrong
 --   spareOne                                 == whether a spare place of the map is set
 --   spare-start, spare-found, spare-none     == the search of the spare places starts, finds one, comes to the end
 --   tooFar                                   == whether a shift is not below the block size
@@ -13,7 +14,8 @@
 --   zero-is                                  == a zero in the heading that was read is one in the bytes
 --   mapped                                   == without one the map is there where its bytes are
 --   length-right                             == where the length is not wrong it is that of a sheet
---   wrong-refused, short-refused, zero-refused, unlike-refused   == bytes with one fault are no sheet
+--   short-refused, zero-refused, unlike-refused   == bytes with one fault are no sheet
+--   first-refused                            == nor are those whose length is wrong by the first block row
 --   last-say                                 == without these the last two faults tell whether they are
 -- Assumes nothing.
 use mathlib.Core.Path.{_≡_, refl, sym, ap, ap₂, _∙_}
@@ -31,7 +33,7 @@ use Rattle.packed_word.specs.Paper.Packed.{bytesFor}
 use Rattle.byte_numbers.specs.Paper.Numbers.{number16}
 use Rattle.sheet.specs.Paper.Sheet.{blockRows, blockColumns, blockSize, mapBit, setIn, setPlaces, shiftAt, sheetLength, wrongLength, zeroSize, spareMap, shiftTooFar, unlikeRows, noSheet}
 use Rattle.sheet_bytes.specs.declared.Heading.{Heading}
-use Rattle.sheet_bytes.specs.Parts.{Headed, Mapped, setFrom}
+use Rattle.sheet_bytes.specs.Parts.{Headed, Mapped, setFrom, wrongByFirst}
 use Rattle.sheet_bytes.proofs.Maps.{places-are, from-first}
 
 -- a search goes on past a place that fails
@@ -77,13 +79,18 @@ module _ (bs : List ℕ) where
       sum-cong (blockRows bs) (λ r l. eqb-true (setIn bs r) (setIn bs 0) (not-false _ (any-clear (rowUnlike bs) (blockRows bs) h r l)))
       ∙ sum-const (blockRows bs) (setIn bs 0)
 
--- and so the length is asked of the first one, by the heading and the counts that were read
-pub wrong-is : {bs : List ℕ} {h : Heading} → Headed bs h → unlikeRows bs ≡ false → (b x : ℕ) → b ≡ bytesFor (h .rows * h .columns)
-    → x ≡ setFrom bs 0 (h .columns) → not (eqb (length bs) (6 + b + 2 * (h .rows * x))) ≡ wrongLength bs
-unfolding wrongLength sheetLength
-wrong-is {bs} {h} d u b x f e =
-    ap₂ (λ (y s : ℕ). not (eqb (length bs) (6 + y + 2 * s))) (f ∙ ap bytesFor (places-are d))
-    (ap₂ _*_ (d .rows) (e ∙ from-first d) ∙ sym (places-alike bs u))
+  -- and so the first one tells whether the length is wrong
+  pub first-says : unlikeRows bs ≡ false → wrongByFirst bs ≡ wrongLength bs
+  unfolding wrongByFirst wrongLength sheetLength
+  first-says h =
+      ap (λ (s : ℕ). not (eqb (length bs) (6 + bytesFor (blockRows bs * blockColumns bs) + 2 * s))) (sym (places-alike h))
+
+-- the length by the first block row, by the heading and the counts that were read
+pub wrong-is : {bs : List ℕ} {h : Heading} → Headed bs h → (b x : ℕ) → b ≡ bytesFor (h .rows * h .columns)
+    → x ≡ setFrom bs 0 (h .columns) → not (eqb (length bs) (6 + b + 2 * (h .rows * x))) ≡ wrongByFirst bs
+unfolding wrongByFirst
+wrong-is {bs} {h} d b x f e =
+    ap₂ (λ (y s : ℕ). not (eqb (length bs) (6 + y + 2 * s))) (f ∙ ap bytesFor (places-are d)) (ap₂ _*_ (d .rows) (e ∙ from-first d))
 
 -- ---- spare places
 
@@ -186,12 +193,7 @@ module _ (bs : List ℕ) where
   unfolding wrongLength
   length-right w = eqb-true (length bs) (sheetLength bs) (not-false (eqb (length bs) (sheetLength bs)) w)
 
-  -- bytes of the wrong length are no sheet
-  pub wrong-refused : wrongLength bs ≡ true → false ≡ not (noSheet bs)
-  unfolding noSheet
-  wrong-refused e = refused-by (λ n. never (sym e ∙ or-left (wrongLength bs) _ n))
-
-  -- nor are too few bytes for heading and map
+  -- too few bytes for heading and map are no sheet
   pub short-refused : length bs < 6 + bytesFor (blockRows bs * blockColumns bs) → false ≡ not (noSheet bs)
   unfolding noSheet sheetLength
   short-refused l = refused-by (λ n. omega (arith, length-right (or-left (wrongLength bs) _ n)))
@@ -201,12 +203,19 @@ module _ (bs : List ℕ) where
   unfolding noSheet
   zero-refused e = refused-by (λ n. never (sym e ∙ or-left (zeroSize bs) _ (or-right (wrongLength bs) _ n)))
 
-  -- nor are those with unlike block rows
-  pub unlike-refused : unlikeRows bs ≡ true → false ≡ not (noSheet bs)
+  -- a sheet's block rows are alike
+  sheet-alike : noSheet bs ≡ false → unlikeRows bs ≡ false
   unfolding noSheet
-  unlike-refused e =
-      refused-by
-      (λ n. never (sym e ∙ or-right (shiftTooFar bs) _ (or-right (spareMap bs) _ (or-right (zeroSize bs) _ (or-right (wrongLength bs) _ n)))))
+  sheet-alike n = or-right (shiftTooFar bs) _ (or-right (spareMap bs) _ (or-right (zeroSize bs) _ (or-right (wrongLength bs) _ n)))
+
+  -- bytes with unlike block rows are no sheet
+  pub unlike-refused : unlikeRows bs ≡ true → false ≡ not (noSheet bs)
+  unlike-refused e = refused-by (λ n. never (sym e ∙ sheet-alike n))
+
+  -- nor are those whose length is wrong by the first: block rows are unlike, or the length is wrong
+  pub first-refused : wrongByFirst bs ≡ true → false ≡ not (noSheet bs)
+  unfolding noSheet
+  first-refused e = refused-by (λ n. never (sym e ∙ first-says bs (sheet-alike n) ∙ or-left (wrongLength bs) _ n))
 
   -- the last two faults, where the bytes have none of the others
   pub last-say : (s f : Bool) → wrongLength bs ≡ false → zeroSize bs ≡ false → unlikeRows bs ≡ false → s ≡ spareMap bs → f ≡ shiftTooFar bs

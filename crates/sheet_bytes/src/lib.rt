@@ -1,14 +1,14 @@
 // Refusal 11: whether bytes are a circulant sheet, and what a sheet's heading and map say.
 // Rests on `sheet`, `packed_word`, `byte_numbers` and `counting`. Document 02: card 5.
 ghost use mathlib.Core.Path.{_≡_};
-ghost use mathlib.Core.Bool.{false, not, _||_};
+ghost use mathlib.Core.Bool.{not, _||_};
 ghost use Prim.Native.Nat.{_+_, _*_, _≤_, _<_};
 ghost use lib.Dec.{eqb};
 ghost use lib.ListN.{length};
 ghost use Rattle.packed_word.specs.Paper.Packed.{bytesFor};
 ghost use Rattle.byte_numbers.specs.Paper.Numbers.{number16};
-ghost use Rattle.sheet.specs.Paper.Sheet.{mapBit, sheetLength, wrongLength, spareMap, shiftTooFar, unlikeRows, noSheet};
-ghost use Rattle.sheet_bytes.specs.Parts.{Headed, Mapped, setFrom};
+ghost use Rattle.sheet.specs.Paper.Sheet.{mapBit, sheetLength, spareMap, shiftTooFar, unlikeRows, noSheet};
+ghost use Rattle.sheet_bytes.specs.Parts.{Headed, Mapped, setFrom, wrongByFirst};
 
 // The numbers that a sheet starts with: block rows, block columns and block size, each of 16 bits.
 pub struct Heading {
@@ -17,8 +17,8 @@ pub struct Heading {
     pub size: usize,
 }
 
-// The 16-bit number at byte p, as a usize. Only this repository's crates call it, where the bytes have one.
-pub fn number_at(bytes: &[u8], p: usize) -> usize
+// The 16-bit number at byte p, as a usize.
+fn number_at(bytes: &[u8], p: usize) -> usize
     requires { ⌜ p + 1 < length (now bytes) ⌝ }
     ensures { λ r. ⌜ (r ≡ number16 (now (bytes .entry)) p) × (r < 65536) ⌝ }
 {
@@ -77,6 +77,17 @@ fn zero_size(h: Heading) -> bool
     (h.rows == 0) | ((h.columns == 0) | (h.size == 0))
 }
 
+// Whether there are fewer or more bytes than heading, map and shifts take, the first block row counted for all. So it is asked before all
+// places of the map are read: where block rows are unlike the bytes are no sheet, whatever their number.
+fn wrong_length(bytes: &[u8], h: Heading) -> bool
+    requires { ⌜ Headed (now bytes) h × Mapped (now bytes) ⌝ }
+    ensures { λ r. ⌜ r ≡ wrongByFirst (now (bytes .entry)) ⌝ }
+{
+    let shifts = 6 + map_bytes(h);
+    let rho = set_from(bytes, 0, h.columns);
+    bytes.len() != shifts + 2 * (h.rows * rho)
+}
+
 // Whether block rows have unlike numbers of set places. Each is held against the first.
 fn unlike_rows(bytes: &[u8], h: Heading) -> bool
     requires { ⌜ Headed (now bytes) h × Mapped (now bytes) ⌝ }
@@ -91,17 +102,6 @@ fn unlike_rows(bytes: &[u8], h: Heading) -> bool
         r += 1;
     }
     false
-}
-
-// Whether there are fewer or more bytes than heading, map and shifts take. All block rows have as many set places as the first, so that one
-// is counted for all.
-fn wrong_length(bytes: &[u8], h: Heading) -> bool
-    requires { ⌜ Headed (now bytes) h × Mapped (now bytes) × (unlikeRows (now bytes) ≡ false) ⌝ }
-    ensures { λ r. ⌜ r ≡ wrongLength (now (bytes .entry)) ⌝ }
-{
-    let shifts = 6 + map_bytes(h);
-    let rho = set_from(bytes, 0, h.columns);
-    bytes.len() != shifts + 2 * (h.rows * rho)
 }
 
 // Whether a place of the map's last byte that stands for no block is set. There are at most seven such places.
@@ -138,7 +138,8 @@ fn shift_too_far(bytes: &[u8], h: Heading) -> bool
     false
 }
 
-// Whether bytes with this heading are a sheet. The map is there before it is read, and the shifts are.
+// Whether bytes with this heading are a sheet. The map is there before its first block row is read, the length fits before all others are,
+// and the shifts are there before they are read.
 fn sheet_under(bytes: &[u8], h: Heading) -> bool
     requires { ⌜ Headed (now bytes) h ⌝ }
     ensures { λ r. ⌜ r ≡ not (noSheet (now (bytes .entry))) ⌝ }
@@ -149,10 +150,10 @@ fn sheet_under(bytes: &[u8], h: Heading) -> bool
     if bytes.len() < 6 + map_bytes(h) {
         return false;
     }
-    if unlike_rows(bytes, h) {
+    if wrong_length(bytes, h) {
         return false;
     }
-    if wrong_length(bytes, h) {
+    if unlike_rows(bytes, h) {
         return false;
     }
     !spare_set(bytes, h) & !shift_too_far(bytes, h)

@@ -127,6 +127,67 @@ fn sheets_of_extreme_sizes() {
     }
 }
 
+/// n or m above 1,023, in one block row or column and in several, before buffers that are too short for
+/// anything: 1 before 7, and nothing written.
+#[test]
+fn large_sizes_before_short_buffers() {
+    let mut random = random(2634);
+    for sizes in [
+        // n alone, m alone, and both.
+        [1, 2, 512],
+        [1, 3, 1000],
+        [2, 32, 32],
+        [2, 1, 512],
+        [3, 2, 342],
+        [32, 2, 32],
+        [2, 2, 512],
+        [2, 2, 32_769],
+        [2, 2, 65_535],
+        [1024, 2, 1],
+        [2, 1024, 1],
+    ] {
+        let [rows, columns, size] = sizes;
+        assert!(rows * size > 1023 || columns * size > 1023, "{sizes:?}");
+        let sheet = LentSheet::new(Grid::by(sizes, |r, c| Some(r * c % size)).bytes());
+        let needed = rows * size * columns;
+        for sizes_room in 0..4 {
+            for list_room in [0, 1, 31, needed.min(32_736) - 1] {
+                let (answer, _) = sheet.to_list([sizes_room, list_room], &mut random);
+                assert_eq!((answer.refusal(), answer.place()), SIZES, "{sizes:?}");
+            }
+        }
+    }
+}
+
+/// A map of 8,000 × 8,000 places, 8,000,000 bytes, its block rows alike and its shifts 0: whole it is a
+/// sheet, of n and m that are refused; with a byte too few or too many it is none.
+#[test]
+fn a_large_map_and_a_byte_off() {
+    let mut random = random(2635);
+    let (count, row_bytes) = (8000, 1000);
+    // No place set; the last one of each block row; and the first eight.
+    for (at, byte, set) in [(0, 0, 0), (row_bytes - 1, 1, 1), (0, 255, 8)] {
+        let mut row = vec![0; row_bytes];
+        row[at] = byte;
+        let shifts = vec![0; 2 * count * set];
+        let bytes = with_sizes([count, count, 1], &[row.repeat(count), shifts].concat());
+        // The reference would need a gigabyte for the blocks of a whole one.
+        let (mut sizes, mut list) = ([7; 4], [7; 99]);
+        let answer = ffi_face::sheet_to_list(&bytes, &mut sizes, &mut list);
+        assert_eq!((answer.refusal(), answer.place()), SIZES, "{set} set");
+        assert_eq!((sizes, list), ([7; 4], [7; 99]), "{set} set");
+        let short = bytes[..bytes.len() - 1].to_vec();
+        let long = [&bytes, &[0][..]].concat();
+        for bytes in [short, long] {
+            let sheet = LentSheet::new(bytes);
+            for rooms in [[4, 32_736], [3, 0]] {
+                let (answer, _) = sheet.to_list(rooms, &mut random);
+                assert_eq!((answer.refusal(), answer.place()), NO_SHEET, "{set} set");
+            }
+        }
+    }
+}
+
 #[test]
 fn spare_places() {
     let mut random = random(2625);

@@ -3,7 +3,7 @@
 use crate::arguments::{asks_help, Arguments, Known};
 use crate::checked;
 use crate::fault::Fault;
-use crate::matrix_file::MatrixFile;
+use crate::matrix_file::{refuse_misnamed, MatrixFile};
 use crate::output::{is_terminal, keep_apart, print, tell, whole_bytes};
 use crate::status::Status;
 
@@ -23,9 +23,10 @@ smallest of them. M is
 --to list         as a list with its sizes
 --to rows         as bare rows
 --to sheet --z Z  as a sheet with blocks of Z × Z, if it is such a grid; with --z 1 any matrix is
+--out FILE        the matrix is written there; a sheet's FILE ends in .sheet, no other does
 --from-one        a list or bare rows count columns from 1
 
-Status 0: accepted; 2: refused, with line, field and remedy on standard error.
+Status 0: accepted; 2: refused, with place and remedy on standard error.
 ";
 
 const KNOWN: Known = Known {
@@ -45,16 +46,21 @@ fn verdict(file: &MatrixFile) -> String {
     format!("{}: {summary}{unlike}: accepted ({form})", file.file)
 }
 
-/// Refuses --z without a sheet, and a sheet that a terminal would show.
+/// Refuses --z without a sheet, a sheet that a terminal would show, and an output whose name says that
+/// it is what it is not.
 fn refuse_misused(arguments: &Arguments) -> Result<(), Fault> {
-    let to_sheet = arguments.value("--to") == Some("sheet");
+    let (to, out) = (arguments.value("--to"), arguments.value("--out"));
+    let to_sheet = to == Some("sheet");
     if !to_sheet && arguments.value("--z").is_some() {
         return Err(arguments.misused("--z goes with --to sheet"));
     }
-    if to_sheet && is_terminal(arguments.value("--out")) {
+    if to_sheet && is_terminal(out) {
         return Err(arguments.misused("a sheet is no text for a terminal: give --out"));
     }
-    Ok(())
+    match to {
+        Some("alist" | "list" | "rows" | "sheet") => refuse_misnamed(out, to_sheet),
+        _ => Ok(()),
+    }
 }
 
 /// The matrix in the form that --to names.

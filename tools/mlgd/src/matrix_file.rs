@@ -141,6 +141,26 @@ impl MatrixFile {
     }
 }
 
+/// Refuses an output whose name says that it is what it is not: a sheet's name ends in .sheet, that
+/// of a text does not. Standard output has no name.
+pub(crate) fn refuse_misnamed(out: Option<&str>, is_sheet: bool) -> Result<(), Fault> {
+    let Some(name) = out.filter(|name| *name != "-") else {
+        return Ok(());
+    };
+    let (what, remedy) = match (is_sheet, sheet::is_named(name)) {
+        (true, false) => (
+            "a sheet of this name would be read as text",
+            "give it a name like code.sheet",
+        ),
+        (false, true) => (
+            "a text of this name would be read as a sheet",
+            "give it a name that does not end in .sheet",
+        ),
+        _ => return Ok(()),
+    };
+    Err(Fault::new(name, what).remedy(remedy))
+}
+
 /// Refuses --from-one where the form says from what columns are counted.
 fn refuse_from_one(file: &str, form: Form, from_one: bool) -> Result<(), Fault> {
     if !from_one || matches!(form, Form::List | Form::Rows) {

@@ -3,7 +3,7 @@
 use crate::arguments::{asks_help, Arguments, Known};
 use crate::fault::Fault;
 use crate::lines::shown;
-use crate::matrix_file::Matrix;
+use crate::matrix_file::{refuse_misnamed, Matrix};
 use crate::output::{keep_apart, print, tell, whole, Output};
 use crate::samples_file::csv_line;
 use crate::setting::Setting;
@@ -17,7 +17,7 @@ mlgd unpack INPUT [--matrix M] [--setting S] [--samples X.csv] [--alist]
 Turns the input of the proved program back into files; those that are not named are not written.
 - is standard output for one of them, and standard input for INPUT.
 
---matrix M        the matrix, as a list with sizes
+--matrix M        the matrix, as a list with sizes; M does not end in .sheet
 --alist           the matrix as an alist file
 --setting S       the setting, as a line of words
 --samples X.csv   the samples, a line of comma-separated numbers for each block
@@ -42,6 +42,7 @@ pub fn run(words: &[String]) -> Result<Status, Fault> {
         .map(|out| arguments.value(out))
         .collect();
     keep_apart(&outputs, &[Some(name)])?;
+    refuse_misnamed(arguments.value("--matrix"), false)?;
     let mut input = Input::open(name)?;
     let (matrix, setting) = input.head()?;
     if let Some(out) = arguments.value("--matrix") {

@@ -2,8 +2,10 @@
 --   SheetReads      == bytes are refused by 11 exactly where they are not a sheet
 --   SheetBack       == sheet to list and back: a sheet is the sheet of its own matrix, byte for byte
 --   ListBack        == list to sheet and back: a matrix that a sheet describes is the matrix of its sheet, sizes and list
+--   ElevenExactly   == sheet to list is refused by 11 exactly where the bytes are not a sheet
 --   SheetFor H Z    == a sheet with that Z whose matrix is H
 --   Described       == a matrix is refused by 12 exactly where Z is 0 or there is no such sheet
+--   TwelveExactly   == list to sheet is refused by 12 exactly where the matrix is accepted and Z is 0 or there is no such sheet
 --   OneAlways       == with Z = 1 every accepted matrix has a sheet
 --   SheetUnique     == a sheet is determined by its matrix and Z
 --   SheetWeights    == each column of a block column weighs as much as the block column has set places, and gamma is the smallest weight
@@ -11,7 +13,8 @@
 --   SheetHeavy      == it meets 4 only for a block column with more than 32 set places, its place the first column of the lowest such
 --   CallsBack       == what sheet to list accepts, list to sheet turns back into the same bytes, where there is room for them
 --   BackAgain       == what list to sheet accepts, sheet to list turns back into the same sizes and list, where there is room for them
--- proofs/Claims.antt proves them. Assumes nothing.
+-- proofs/Claims.antt proves them, those on reading, refusals, weights and order proofs/PlainSheet, Exactly, Ones, Weights, Order and Heavy.
+-- Assumes nothing.
 use Prim.Native.Nat.{ℕ, _+_, _*_, _≤_, _<_}
 use mathlib.Core.Path.{_≡_}
 use mathlib.Core.Bool.{true, false}
@@ -31,6 +34,11 @@ use Rattle.sheet.specs.Paper.Calls.{toListVerdict, toSheetVerdict}
 pub record SheetReads (bs : List ℕ) : Type 0 where
   pub is : noSheet bs ≡ false → IsSheet bs
   pub so : IsSheet bs → noSheet bs ≡ false
+
+-- "New refusal 11, bytes that are not a sheet .., comes before all others"
+pub record ElevenExactly (bs : List ℕ) (a b : ℕ) : Type 0 where
+  pub only : toListVerdict bs a b ≡ refused 11 0 → IsSheet bs → ⊥
+  pub always : (IsSheet bs → ⊥) → toListVerdict bs a b ≡ refused 11 0
 
 -- "nothing lost": from the sheet to the list and back
 abbrev pub SheetBack : Type 0
@@ -52,6 +60,11 @@ pub record SheetFor (H : Matrix) (Z : ℕ) : Type 0 where
 pub record Described (H : Matrix) (Z : ℕ) : Type 0 where
   pub found : describes H Z ≡ true → SheetFor H Z
   pub told : SheetFor H Z → describes H Z ≡ true
+
+-- "new 12, .., comes after 5", and before 7
+pub record TwelveExactly (H : Matrix) (Z room : ℕ) : Type 0 where
+  pub only : toSheetVerdict H Z room ≡ refused 12 0 → (checkOf H ≡ accepted) × (SheetFor H Z → ⊥)
+  pub always : checkOf H ≡ accepted → (SheetFor H Z → ⊥) → toSheetVerdict H Z room ≡ refused 12 0
 
 -- blocks of size 1: a matrix is its own map
 abbrev pub OneAlways : Type 0

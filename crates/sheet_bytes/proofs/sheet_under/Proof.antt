@@ -6,7 +6,7 @@ use borrow.Author.Needs.{needs}
 use Rattle.sheet.specs.Paper.Sheet.{zeroSize, unlikeRows, wrongLength}
 use Rattle.sheet_bytes.specs.Parts.{Mapped}
 use Rattle.sheet_bytes.proofs.Maps.{places-are, places-few}
-use Rattle.sheet_bytes.proofs.Faults.{zero-is, mapped, length-right, wrong-refused, short-refused, zero-refused, unlike-refused, last-say}
+use Rattle.sheet_bytes.proofs.Faults.{zero-is, mapped, first-says, length-right, short-refused, zero-refused, first-refused, unlike-refused, last-say}
 use Rattle.sheet_bytes.proofs.sheet_under.Statement.{statement}
 use Rattle.sheet_bytes.proofs.sheet_under.Tie as tie
 
@@ -21,12 +21,14 @@ there c =
     (c .if2 .left)
 
 -- the block rows are alike
-alike : (c : tie.Else3) → unlikeRows (c .before .before .before .before .before .before .before .args .bytes .now) ≡ false
-alike c = sym (c .before .unlike-rows .ensures) ∙ c .if3 .left
+alike : (c : tie.Else4) → unlikeRows (c .before .before .before .before .before .before .before .before .before .args .bytes .now) ≡ false
+alike c = sym (c .before .unlike-rows .ensures) ∙ c .if4 .left
 
--- the length is right
+-- so the length, right by the first one, is right
 right : (c : tie.Else4) → wrongLength (c .before .before .before .before .before .before .before .before .before .args .bytes .now) ≡ false
-right c = sym (c .before .wrong-length .ensures) ∙ c .if4 .left
+right c =
+    sym (first-says (c .before .before .before .before .before .before .before .before .before .args .bytes .now) (alike c))
+    ∙ sym (c .before .before .before .wrong-length .ensures) ∙ c .before .before .if3 .left
 
 zero-size-requires : tie.Need-zero-size-requires
 zero-size-requires c κs = search needs
@@ -47,20 +49,20 @@ returns-2 c =
     let s = c .before .before .before .before .before in
     short-refused (s .args .bytes .now) (omega (arith, places-are (s .pre), c .before .map-bytes .ensures, c .if2 .taken))
 
-unlike-rows-requires : tie.Need-unlike-rows-requires
-unlike-rows-requires c κs = (c .before .before .before .before .before .pre, there c)
+wrong-length-requires : tie.Need-wrong-length-requires
+wrong-length-requires c κs = (c .before .before .before .before .before .pre, there c)
 
 returns-3 : tie.Need-returns-3
 returns-3 c =
-    unlike-refused (c .before .before .before .before .before .before .before .args .bytes .now) (sym (c .before .unlike-rows .ensures) ∙ c .if3 .taken)
+    first-refused (c .before .before .before .before .before .before .before .args .bytes .now) (sym (c .before .wrong-length .ensures) ∙ c .if3 .taken)
 
-wrong-length-requires : tie.Need-wrong-length-requires
-wrong-length-requires c κs = (c .before .before .before .before .before .before .before .pre, there (c .before .before), alike c)
+unlike-rows-requires : tie.Need-unlike-rows-requires
+unlike-rows-requires c κs = (c .before .before .before .before .before .before .before .pre, there (c .before .before))
 
 returns-4 : tie.Need-returns-4
 returns-4 c =
-    wrong-refused (c .before .before .before .before .before .before .before .before .before .args .bytes .now)
-    (sym (c .before .wrong-length .ensures) ∙ c .if4 .taken)
+    unlike-refused (c .before .before .before .before .before .before .before .before .before .args .bytes .now)
+    (sym (c .before .unlike-rows .ensures) ∙ c .if4 .taken)
 
 spare-set-requires : tie.Need-spare-set-requires
 spare-set-requires c κs = (c .before .before .before .before .before .before .before .before .before .pre, there (c .before .before .before .before))
@@ -75,7 +77,7 @@ returns-5 c =
     let e = c .before .before in
     last-say (c .before .before .before .before .before .before .before .before .before .before .before .args .bytes .now)
     (c .before .spare-set .result) (c .shift-too-far .result)
-    (right e) (no-zero (e .before .before .before .before .before .before)) (alike (e .before .before))
+    (right e) (no-zero (e .before .before .before .before .before .before)) (alike e)
     (c .before .spare-set .ensures) (c .shift-too-far .ensures)
 
 pub sheet-under-spec : {M : Type 1} → statement M
@@ -87,9 +89,9 @@ sheet-under-spec =
     map-bytes-requires
     add-if2
     returns-2
-    unlike-rows-requires
-    returns-3
     wrong-length-requires
+    returns-3
+    unlike-rows-requires
     returns-4
     spare-set-requires
     shift-too-far-requires

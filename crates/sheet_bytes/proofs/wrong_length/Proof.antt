@@ -1,4 +1,4 @@
--- `sheet_bytes::wrong_length` meets its contract: all block rows have as many set places as the first. Assumes nothing.
+-- `sheet_bytes::wrong_length` meets its contract: the first block row is counted for all. Assumes nothing.
 use Prim.Native.Nat.{_*_, _≤_}
 use native.Mathlib.Omega.{arith}
 use Rattle.sheet_bytes.proofs.Maps.{product-small, places-few, row-there, from-few}
@@ -43,7 +43,7 @@ add-result c = omega (arith, shifts-few c, few (c .before .before))
 returns : tie.Need-returns
 returns c =
     let s = c .before .before .before .before in
-    wrong-is (s .pre .0) (s .pre .2) (c .before .before .map-bytes .result) (c .before .set-from .result)
+    wrong-is (s .pre .0) (c .before .before .map-bytes .result) (c .before .set-from .result)
     (c .before .before .map-bytes .ensures) (c .before .set-from .ensures)
 
 pub wrong-length-spec : {M : Type 1} → statement M

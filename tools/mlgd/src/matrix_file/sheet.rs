@@ -227,7 +227,8 @@ impl Sheet<'_> {
     /// Refusal 5: two rows share two columns or more.
     fn overlap(&self, row: usize) -> Wrong {
         let r = row / self.size;
-        let what = format!("row {row}, of block row {r}, shares two columns with a row after it");
+        let what =
+            format!("row {row}, of block row {r}, shares two columns or more with a row after it");
         (what, checked::OVERLAP_REMEDY)
     }
 }
@@ -309,7 +310,7 @@ mod tests {
         assert_eq!(what(&empty, 1, 0), expected);
         let expected = "block column 1 has 2 set places, and a column stands in 32 rows at most";
         assert_eq!(what(&SMALL, 4, 3), expected);
-        let expected = "row 4, of block row 1, shares two columns with a row after it";
+        let expected = "row 4, of block row 1, shares two columns or more with a row after it";
         assert_eq!(what(&SMALL, 5, 4), expected);
         assert_eq!(what(&SMALL, 99, 7), "refusal 99 at 7");
     }

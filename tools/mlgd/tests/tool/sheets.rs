@@ -4,6 +4,7 @@ use crate::common::{ran, root, Folder};
 use generator::{alist, codes, example, sheets, Random};
 use mlgd::matrix_file::MatrixFile;
 use std::fs;
+use std::os::unix::fs::symlink;
 
 /// The examples are turned into one another, byte for byte.
 #[test]
@@ -102,6 +103,7 @@ fn no_files_of_their_kind() {
     folder.write("h", alist::text(&codes::code_a()));
     let made = folder.run_line("matrix h --to sheet --z 1");
     folder.write("h.sheet", made.printed);
+    symlink("/dev/full", folder.0.join("full.sheet")).unwrap();
     for (line, said) in [
         (
             "matrix d.sheet",
@@ -126,8 +128,8 @@ fn no_files_of_their_kind() {
             "h.sheet: the output would replace an input, give it another name",
         ),
         (
-            "matrix h --to sheet --z 1 --out /dev/full",
-            "/dev/full: No space left on device, make room and run it again: what is there is not \
+            "matrix h --to sheet --z 1 --out full.sheet",
+            "full.sheet: No space left on device, make room and run it again: what is there is not \
              whole",
         ),
     ] {
@@ -135,4 +137,98 @@ fn no_files_of_their_kind() {
         assert_eq!((ran.status, ran.said), (2, format!("{said}\n")), "{line}");
     }
     assert_eq!(folder.parts(), 0);
+}
+
+const NO_TEXT: &str = "a sheet of this name would be read as text, give it a name like code.sheet";
+const NO_SHEET: &str =
+    "a text of this name would be read as a sheet, give it a name that does not \
+                        end in .sheet";
+
+/// A matrix, an input, and an older file under each of these names.
+fn with_older(name: &str, files: &[&str]) -> Folder {
+    let folder = Folder::new(name);
+    folder.write("h", alist::text(&codes::code_a()));
+    folder.write("i", example::of_tanner155().input());
+    for file in files {
+        folder.write(file, "older\n");
+    }
+    folder
+}
+
+/// The command line is refused with these words, and the older file stays.
+fn keeps_older(folder: &Folder, line: &str, file: &str, said: &str) {
+    let ran = folder.run_line(line);
+    let expected = (2, format!("{file}: {said}\n"));
+    assert_eq!((ran.status, ran.said), expected, "{line}");
+    assert!(ran.printed.is_empty(), "{line}");
+    assert_eq!(folder.read(file), "older\n", "{line}");
+    assert_eq!(folder.parts(), 0, "{line}");
+}
+
+/// A sheet of another name would be read as text, and is not written.
+#[test]
+fn a_sheet_has_its_name() {
+    let refused = [
+        "code",
+        "code.alist",
+        "code.sheet.txt",
+        "codesheet",
+        ".sheet",
+    ];
+    let folder = with_older("sheets-named", &refused);
+    for file in refused {
+        let line = format!("matrix h --to sheet --z 1 --out {file}");
+        keeps_older(&folder, &line, file, NO_TEXT);
+    }
+    let printed = folder.run_line("matrix h --to sheet --z 1 --out -");
+    assert_eq!(printed.status, 0);
+    for file in ["code.sheet", "code.alist.SHEET", "./a.b.sheet"] {
+        let line = format!("matrix h --to sheet --z 1 --out {file}");
+        assert_eq!(folder.run_line(&line).status, 0, "{line}");
+        assert_eq!(fs::read(folder.0.join(file)).unwrap(), printed.printed);
+        let back = folder.run(&["matrix", file, "--to", "alist"]);
+        assert_eq!(back.text(), folder.read("h"), "{file}");
+    }
+}
+
+/// Text of a sheet's name would be read as a sheet, and is not written.
+#[test]
+fn a_text_has_another_name() {
+    let refused = ["code.sheet", "code.Sheet", "./code.alist.SHEET"];
+    let folder = with_older("sheets-texts", &refused);
+    let lines = [
+        "matrix h --to alist --out",
+        "matrix h --to list --out",
+        "matrix h --to rows --out",
+        "unpack i --matrix",
+        "unpack i --alist --setting s --samples y --matrix",
+    ];
+    for line in lines {
+        for file in refused {
+            keeps_older(&folder, &format!("{line} {file}"), file, NO_SHEET);
+        }
+        assert!(!folder.has("s") && !folder.has("y"), "{line}");
+    }
+    for line in lines {
+        let printed = folder.run_line(&format!("{line} -")).text();
+        for file in ["code", "code.sheet.txt", "sheet"] {
+            let line = format!("{line} {file}");
+            assert_eq!(folder.run_line(&line).status, 0, "{line}");
+            assert_eq!(folder.read(file), printed, "{line}");
+            assert_eq!(folder.run(&["matrix", file]).status, 0, "{line}");
+        }
+    }
+}
+
+/// What is wrong with --to is said before what is wrong with a name.
+#[test]
+fn no_form_has_no_name() {
+    let folder = with_older("sheets-forms", &["code.sheet"]);
+    let ran = folder.run_line("matrix h --to dense --out code.sheet");
+    let said = "--to is alist, list, rows or sheet, and not `dense`, see mlgd matrix --help";
+    assert_eq!(
+        (ran.status, ran.said),
+        (2, format!("mlgd matrix: {said}\n"))
+    );
+    assert_eq!(folder.read("code.sheet"), "older\n");
 }
