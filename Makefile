@@ -20,7 +20,7 @@ DESTDIR ?=
 # OPTIONS are further ones of `mlgd decode`, such as --header --skip-columns 2. Blocks that stay open (status 1) are no fault.
 run: tools
 	@echo "The first run proves and builds all it needs, which takes three to four minutes (build/run.log tells how far it is); later runs take seconds."
-	@mkdir -p build && rt check decode ffi_codes session_open session_step one_step failing_checks >build/run.log || { cat build/run.log; exit 1; }
+	@mkdir -p build && rt check decode ffi_codes session_open session_step one_step failing_checks sheet_to_list sheet_from_list >build/run.log || { cat build/run.log; exit 1; }
 	@$(MAKE) --no-print-directory target/staticlib/libffi.a mlgd >>build/run.log || { cat build/run.log; exit 1; }
 	build/release/mlgd decode --matrix "$(MATRIX)" --setting "$(SETTING)" --samples "$(SAMPLES)" --out "$(RESULTS)" $(OPTIONS) || test $$? -eq 1
 	build/release/mlgd map "$(RESULTS)" --out "$(MAP)"
