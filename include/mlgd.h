@@ -43,8 +43,8 @@ extern "C" {
  * its arrays on the stack and needs no other memory, so the thread that calls must have this much
  * left. It does not ask how much is left.
  *
- * Measured: 154,264 bytes at its deepest, for a small matrix as for the largest: 65,472 for the
- * list, 67,520 for the matrix's index, 4,092 for the samples and about 17 KB for all else. (The
+ * Measured: 155,192 bytes at its deepest, for a small matrix as for the largest: 65,472 for the
+ * list, 67,520 for the matrix's index, 4,092 for the samples and about 18 KB for all else. (The
  * matrix check's 43,006 lie in the index's place, as it is done before the index is built.)
  *
  * A controller with less stack needs a build of its own. The arrays' sizes are constants in the
@@ -74,8 +74,8 @@ extern "C" {
  *     level_bytes      complement: n bytes or more.
  *   report,            written: rounds, failing, changed and a zero, 16 bits each, low byte first:
  *     report_bytes     8 bytes or more. Rounds of voting done; checks that fail in the word, 0 when
- *                      decoded; bits in which the word differs from those that the samples
- *                      stand for.
+ *                      decoded; positions with a level other than 0 at opening, before the first
+ *                      round, whose bit ends different from the one that the sample stands for.
  *
  * Returned. No other value occurs.
  *
@@ -120,8 +120,9 @@ extern "C" {
  * Promise. Let t = gamma / 2, rounded down, and the limit at least L / 2 + 1 (64 with bits 8, 2
  * with bits 3). If nothing is refused and at most t samples stand for another bit than the codeword
  * that was sent has there, however strongly, the call returns MLGD_DECODED, the word is that
- * codeword, and changed is the number of wrong samples. One exception: where gamma is even and
- * exactly gamma / 2 samples are wrong, no right bit 1 may have level 0 at the start.
+ * codeword, and changed is the number of wrong samples with a level other than 0. One exception:
+ * where gamma is even and exactly gamma / 2 samples are wrong, no right bit 1 may have level 0 at
+ * the start.
  *
  * Proved, for every input: what is returned and every byte that is written or stays, that no byte
  * outside the lent lengths is touched, that the call ends, and the promise. Trusted: the points

@@ -150,11 +150,30 @@ struct Run {
     limit: u8,
 }
 
-/// The cells of one block.
+/// The cells of one block. A mark is the hard bit, and 2 more where the level at opening is 0.
 struct Cells {
     x: [u8; WIDTH],
     z: [u8; WIDTH],
-    hard: [u8; WIDTH],
+    marks: [u8; WIDTH],
+}
+
+impl Cells {
+    /// Marks the places, with levels and bits as the quantiser left them.
+    #[inline(always)]
+    fn mark(&mut self, largest: u8, vectors: usize) {
+        let opened = self.x[..vectors].iter().zip(&self.z[..vectors]);
+        for (mark, (x, z)) in self.marks[..vectors].iter_mut().zip(opened) {
+            *mark = z | u8::from(*x == largest) << 1;
+        }
+    }
+
+    /// How many bits of places that had a level are others now: those that differ from their mark in
+    /// the lowest place alone.
+    #[inline(always)]
+    fn changed(&self, n: usize) -> u16 {
+        let turned = |(z, mark): (&u8, &u8)| u16::from(z ^ mark == 1);
+        self.z[..n].iter().zip(&self.marks).map(turned).sum()
+    }
 }
 
 /// Lines are written when there are so many bytes of them.
@@ -179,14 +198,12 @@ impl Run {
             out.push(b'\n');
             return;
         }
-        let vectors = vectors(&self.h);
-        cells.hard[..vectors].copy_from_slice(&cells.z[..vectors]);
         let largest = self.quantiser.largest;
+        cells.mark(largest, vectors(&self.h));
         // SAFETY: the check has accepted the matrix, and RHO is its row weight.
         let (rounds, failing) =
             unsafe { rounds.run::<RHO>(&self.h, self.limit, largest, &mut cells.x, &mut cells.z) };
-        let differs = |(a, b): (&u8, &u8)| u16::from(a ^ b);
-        let changed: u16 = cells.z[..n].iter().zip(&cells.hard).map(differs).sum();
+        let changed = cells.changed(n);
         out.extend(if failing == 0 {
             &b" decoded "[..]
         } else {
@@ -211,7 +228,7 @@ impl Run {
         let mut cells = Cells {
             x: [0; WIDTH],
             z: [0; WIDTH],
-            hard: [0; WIDTH],
+            marks: [0; WIDTH],
         };
         // SAFETY: the check has accepted the matrix.
         let mut rounds = unsafe { R::of(&self.h) };

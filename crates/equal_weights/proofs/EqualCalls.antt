@@ -32,8 +32,8 @@ use Rattle.majority_logic.specs.Paper.OneStep.{oneStepReport, oneStepVerdict, o
 use Rattle.majority_logic.proofs.Correction.{flipped-equal}
 use Rattle.one_step_core.specs.Paper.Call.{OneStepAnswered}
 use Rattle.one_step_indexed.specs.Paper.Call.{oneStepIndexedVerdict, oneStepIndexedOf, OneStepIndexedAnswered}
-use Rattle.quantiser_levels.specs.Paper.Samples.{Setting, hardBit}
-use Rattle.iterative_core.specs.Paper.Iterative.{endFrom, reportAt, iterativeVerdict, iterativeOf, iterativeWord, iterativeLevels}
+use Rattle.quantiser_levels.specs.Paper.Samples.{Setting}
+use Rattle.iterative_core.specs.Paper.Iterative.{startOf, endFrom, reportAt, iterativeVerdict, iterativeOf, iterativeWord, iterativeLevels}
 use Rattle.iterative_core.specs.Paper.Call.{IterativeAnswered}
 use Rattle.iterative_indexed.specs.Paper.Call.{iterativeIndexedVerdict, iterativeIndexedOf, IterativeIndexedAnswered}
 use Rattle.session_asking.specs.Paper.Asked.{Held, openVerdict, stepVerdict}
@@ -65,7 +65,7 @@ module _ (H : Matrix) (e : checkEqual H ≡ accepted) where
   iterative-equal S xs said w w′ ls ls′ a =
       let same : Verdict → Verdict = λ v. iterativeAskedBy v H S xs (length w) (length ls) in
       record {
-        answer = a .answer ∙ ap (λ (v : Verdict). after (same v) (reportAt H (hardBit xs) (endFrom H S xs))) (check-equal H e);
+        answer = a .answer ∙ ap (λ (v : Verdict). after (same v) (reportAt H (startOf S xs) (endFrom H S xs))) (check-equal H e);
         word = a .word ∙ ap (λ (v : Verdict). written (same v) (iterativeWord H S xs) w) (check-equal H e);
         levels = a .levels ∙ ap (λ (v : Verdict). written (same v) (iterativeLevels H S xs) ls) (check-equal H e);
       }
@@ -76,9 +76,9 @@ module _ (H : Matrix) (e : checkEqual H ≡ accepted) where
   open-equal S xs h = ap (λ (v : Verdict). openBy v H S xs h) (check-equal H e)
 
   -- a step of it
-  pub step-equal : (w : List ℕ) (h : Held) → stepOf H w h ≡ stepBy (checkEqual H) H w h
+  pub step-equal : (w : List ℕ) (o : List ℤ) (h : Held) → stepOf H w o h ≡ stepBy (checkEqual H) H w o h
   unfolding stepOf stepVerdict
-  step-equal w h = ap (λ (v : Verdict). stepBy v H w h) (check-equal H e)
+  step-equal w o h = ap (λ (v : Verdict). stepBy v H w o h) (check-equal H e)
 
   -- building the index
   pub index-equal : (old new : List ℕ) (v : Verdict) → IndexAnswered H old new v → IndexBy (checkEqual H) H old new v
@@ -108,7 +108,7 @@ module _ (H : Matrix) (e : checkEqual H ≡ accepted) where
   iterative-indexed-equal x S xs said w w′ ls ls′ a =
       let same : Verdict → Verdict = λ v. indexedAskedBy v H x S xs (length w) (length ls) in
       record {
-        answer = a .answer ∙ ap (λ (v : Verdict). after (same v) (reportAt H (hardBit xs) (endFrom H S xs))) (check-equal H e);
+        answer = a .answer ∙ ap (λ (v : Verdict). after (same v) (reportAt H (startOf S xs) (endFrom H S xs))) (check-equal H e);
         word = a .word ∙ ap (λ (v : Verdict). written (same v) (iterativeWord H S xs) w) (check-equal H e);
         levels = a .levels ∙ ap (λ (v : Verdict). written (same v) (iterativeLevels H S xs) ls) (check-equal H e);
       }

@@ -32,11 +32,12 @@ use Rattle.matrix_index.specs.Paper.Index.{ownVerdict}
 use Rattle.matrix_index_check.specs.Paper.Call.{indexedVerdict}
 use Rattle.syndrome.specs.Paper.Failing.{failingVerdict, failingOf}
 use Rattle.majority_logic.specs.Paper.OneStep.{stepWord, stepRounds, oneStepReport, oneStepVerdict, oneStepOf}
-use Rattle.quantiser_levels.specs.Paper.Samples.{Setting, settingFits, largest, hardBit}
+use Rattle.quantiser_levels.specs.Paper.Samples.{Setting, settingFits, largest}
 use Rattle.quantiser_settings.proofs.Ranges.{fits-reads}
+use Rattle.iterative_changed.specs.Paper.Changed.{decidedIn}
+use Rattle.iterative_changed.proofs.Changes.{changed-le}
 use Rattle.iterative_core.specs.Paper.Iterative.{startOf, endFrom, reportAt, samplesVerdict, iterativeVerdict, iterativeOf}
 use Rattle.iterative_rounds.proofs.Ends.{rounds-within}
-use Rattle.iterative_core.proofs.Changes.{changed-le}
 use Rattle.one_step_indexed.specs.Paper.Call.{oneStepIndexedVerdict, oneStepIndexedOf}
 use Rattle.iterative_indexed.specs.Paper.Call.{iterativeIndexedVerdict, iterativeIndexedOf}
 use Rattle.ffi_codes.specs.Codes.{Small}
@@ -107,15 +108,16 @@ and-then-twice accepted v w = refl
 and-then-twice (refused k x) v w = refl
 
 -- a report of iterative voting, with a setting in range
-fit-small : (H : Matrix) (S : Setting) (xs : List Float) → settingFits S ≡ true → checkOf H ≡ accepted → Small (reportAt H (hardBit xs) (endFrom H S xs))
+fit-small : (H : Matrix) (S : Setting) (xs : List Float) → settingFits S ≡ true → checkOf H ≡ accepted → Small (reportAt H (startOf S xs) (endFrom H S xs))
 unfolding reportAt endFrom
 fit-small H S xs y e =
     let a = accepted-is H e .sizes in
     let t = endFrom H S xs in
+    let s = startOf S xs in
     record {
-      rounds = omega (arith, rounds-within H (largest (S .bits)) (S .limit) (startOf S xs), fits-reads S y .limit);
+      rounds = omega (arith, rounds-within H (largest (S .bits)) (S .limit) s, fits-reads S y .limit);
       failing = omega (arith, failing-le H (t .last .z), a .m-most);
-      changed = omega (arith, changed-le H (t .last .z) (hardBit xs), a .n-most);
+      changed = omega (arith, changed-le (H .n) (decidedIn (s .R)) (t .last .z) (s .z), a .n-most);
     }
 
 -- iterative voting: its rounds are within the round limit
@@ -130,5 +132,5 @@ unfolding iterativeIndexedOf iterativeIndexedVerdict indexedVerdict samplesVerdi
 iterative-indexed-small H x S xs b l =
     cases (settingFits S) (λ y. after-small (checkOf H) _ _ (fit-small H S xs y))
     (λ n. rw n (
-    subst (λ (v : Verdict). Small (after v (reportAt H (hardBit xs) (endFrom H S xs)))) (and-then-twice (checkOf H) (ownVerdict H x) (refused 6 0))
-    (six-small (andThen (checkOf H) (ownVerdict H x)) (reportAt H (hardBit xs) (endFrom H S xs)))))
+    subst (λ (v : Verdict). Small (after v (reportAt H (startOf S xs) (endFrom H S xs)))) (and-then-twice (checkOf H) (ownVerdict H x) (refused 6 0))
+    (six-small (andThen (checkOf H) (ownVerdict H x)) (reportAt H (startOf S xs) (endFrom H S xs)))))

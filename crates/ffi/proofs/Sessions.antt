@@ -19,11 +19,12 @@ use Rattle.answers.specs.Paper.Answers.{Verdict, accepted, refused, Said, andTh
 use Rattle.answers.specs.Paper.Enums.{saidOf}
 use Rattle.answers.specs.declared.Answer.{Answer}
 use Rattle.packed_word.specs.Paper.Packed.{bitAt}
-use Rattle.iterative_core.proofs.Changes.{changed-le}
 use Rattle.matrix.specs.Paper.Code.{Matrix, failing}
 use Rattle.matrix.specs.Paper.Check.{checkOf}
 use Rattle.matrix.specs.Paper.PlainCheck.{Accepted}
 use Rattle.quantiser_levels.specs.Paper.Samples.{Setting, settingFits, hardBit}
+use Rattle.iterative_changed.specs.Paper.Changed.{decidedIn, levelAt}
+use Rattle.iterative_changed.proofs.Changes.{changed-le}
 use Rattle.iterative_core.specs.Paper.Iterative.{startOf}
 use Rattle.session_record.specs.Paper.Record.{Course, Record, courseIn}
 use Rattle.session_asking.specs.Paper.Asked.{Held, openVerdict, stepVerdict}
@@ -45,13 +46,13 @@ verdict-cases {ℓ} : {A : Type ℓ} (v : Verdict) → (v ≡ accepted → A) �
 verdict-cases accepted f g = f refl
 verdict-cases (refused k x) f g = g k x refl
 
--- the answer of an accepted call
-says-small : (H : Matrix) → Accepted H → (course : Course) (k : ℕ) (r z : ℕ → ℕ) → k < 256 → Small (saysAt H course k r z)
-says-small H a course k r z h =
+-- the answer of an accepted call, whichever places count
+says-small : (H : Matrix) → Accepted H → (course : Course) (k : ℕ) (counts : ℕ → Bool) (r z : ℕ → ℕ) → k < 256 → Small (saysAt H course k counts r z)
+says-small H a course k counts r z h =
     record {
       rounds = h;
       failing = omega (arith, failing-le H z, a .sizes .m-most);
-      changed = omega (arith, changed-le H z r, a .sizes .n-most);
+      changed = omega (arith, changed-le (H .n) counts z r, a .sizes .n-most);
     }
 
 -- what opening and a step say has room in its code
@@ -59,16 +60,17 @@ pub open-small : (H : Matrix) (S : Setting) (xs : List Float) (h : Held) → Sma
 open-small H S xs h =
     verdict-cases (openVerdict H S xs h)
     (λ e. subst (λ (l : Left). Small (l .said)) (sym (accepted-opens H S xs h e))
-    (says-small H (accepted-open H S xs h e .matrix) (courseFor S) 0 (hardBit xs) (startOf S xs .z) (omega arith)))
+    (says-small H (accepted-open H S xs h e .matrix) (courseFor S) 0 (decidedIn (startOf S xs .R)) (hardBit xs) (startOf S xs .z) (omega arith)))
     (λ k x e. subst (λ (l : Left). Small (l .said)) (sym (refused-open-keeps H S xs h k x e)) tt)
 
-pub step-small : (H : Matrix) (w : List ℕ) (h : Held) → Small (stepOf H w h .said)
-step-small H w h =
-    verdict-cases (stepVerdict H w h)
-    (λ e. subst (λ (l : Left). Small (l .said)) (sym (accepted-steps H w h e))
-    (let p = accepted-step H w h e in
-    says-small H (p .matrix) (courseIn (h .rec)) (suc (h .rec .k)) (bitAt w) (steppedState H h .z) (omega (arith, p .usable .limit, p .usable .left))))
-    (λ k x e. subst (λ (l : Left). Small (l .said)) (sym (refused-step-keeps H w h k x e)) tt)
+pub step-small : (H : Matrix) (w : List ℕ) (o : List ℤ) (h : Held) → Small (stepOf H w o h .said)
+step-small H w o h =
+    verdict-cases (stepVerdict H w o h)
+    (λ e. subst (λ (l : Left). Small (l .said)) (sym (accepted-steps H w o h e))
+    (let p = accepted-step H w o h e in
+    says-small H (p .matrix) (courseIn (h .rec)) (suc (h .rec .k)) (decidedIn (levelAt o)) (bitAt w) (steppedState H h .z)
+    (omega (arith, p .usable .limit, p .usable .left))))
+    (λ k x e. subst (λ (l : Left). Small (l .said)) (sym (refused-step-keeps H w o h k x e)) tt)
 
 -- a refusal by 6 is a refusal
 six : (v : Verdict) → (k : ℕ) × (x : ℕ) × (andThen v (refused 6 0) ≡ refused k x)

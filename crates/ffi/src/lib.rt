@@ -254,7 +254,7 @@ pub extern "C" fn mlgd_open(
     turn_code(turn, cells)
 }
 
-// One step of a session.
+// One step of a session. `opened` are the levels that the opening wrote.
 #[no_mangle]
 pub extern "C" fn mlgd_step(
     cells: &mut [u16],
@@ -264,16 +264,17 @@ pub extern "C" fn mlgd_step(
     gamma: u16,
     list: &[u16],
     received: &[u8],
+    opened: &[Cell],
     word: &mut [u8],
     levels: &mut [Cell],
 ) -> u64
-    ensures { λ r. ⌜ CalledAs (onRecord (now (cells .entry)) (stepOf (matrix n m rho gamma (now (list .entry))) (now (received .entry)) (lent (recordIn (now (cells .entry))) (now (word .entry)) (now (levels .entry)))) (lent (recordIn (now (cells .entry))) (now (word .entry)) (now (levels .entry)))) r (now (cells .entry)) (now (cells .exit)) (now (word .exit)) (now (levels .exit)) ⌝ }
+    ensures { λ r. ⌜ CalledAs (onRecord (now (cells .entry)) (stepOf (matrix n m rho gamma (now (list .entry))) (now (received .entry)) (now (opened .entry)) (lent (recordIn (now (cells .entry))) (now (word .entry)) (now (levels .entry)))) (lent (recordIn (now (cells .entry))) (now (word .entry)) (now (levels .entry)))) r (now (cells .entry)) (now (cells .exit)) (now (word .exit)) (now (levels .exit)) ⌝ }
 {
     if cells.len() != RECORD_CELLS {
         return NO_RECORD;
     }
     let shape = Shape { n, m, rho, gamma };
     let s = session_in(cells);
-    let turn = session_step::step_copy(s, shape, list, received, word, levels);
+    let turn = session_step::step_copy(s, shape, list, received, opened, word, levels);
     turn_code(turn, cells)
 }

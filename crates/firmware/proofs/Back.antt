@@ -17,7 +17,8 @@ use Rattle.byte_numbers.specs.Paper.Numbers.{number16, samplesIn}
 use Rattle.matrix.specs.Paper.Code.{Matrix, failing}
 use Rattle.quantiser_levels.specs.Paper.Samples.{Setting, settingFits, largest, hardBit}
 use Rattle.quantiser_settings.proofs.Ranges.{fits-reads, largest-most}
-use Rattle.iterative_core.specs.Paper.Iterative.{changedBits, endFrom, reportAt, iterativeLevels}
+use Rattle.iterative_changed.specs.Paper.Changed.{decidedIn, changed}
+use Rattle.iterative_core.specs.Paper.Iterative.{startOf, endFrom, reportAt, iterativeLevels}
 use Rattle.iterative_core.proofs.Results.{end-bound}
 use Rattle.firmware_codes.specs.Paper.Codes.{reportBytes, levelBytes, levelIn}
 use Rattle.firmware_codes.proofs.Tells.{report-back, level-bytes-back}
@@ -50,16 +51,17 @@ module _ (H : Matrix) (S : Setting) (xs : List ℕ) where
   -- what a call that is not refused leaves
   pub read-back : {bs w w′ ls ls′ p p′ : List ℕ} {r : ℕ} → FacedAs H bs S xs r w w′ ls ls′ p p′
       → faceVerdict H bs S xs (length w) (length ls) (length p) ≡ accepted → ReadBack H S (samplesIn xs) ls′ p′
-  unfolding faceVerdict bytesVerdict faceReport reportAt
+  unfolding faceVerdict bytesVerdict faceReport reportAt startOf
   read-back {bs} {w} {w′} {ls} {ls′} {p} {p′} f e =
       let t = endFrom H S (samplesIn xs) in
-      let rep = reportAt H (hardBit (samplesIn xs)) t in
+      let rep = reportAt H (startOf S (samplesIn xs)) t in
       let v = passed-on (faceCheck H bs) (bytesVerdict (H .n) S xs (length w) (length ls) (length p)) e in
       let y = not-false (settingFits S) (passed (not (settingFits S)) 6 0 _ (v .1) .0) in
       let l : ls′ ≡ over (levelBytes (iterativeLevels H S (samplesIn xs))) ls =
       f .levels ∙ ap (λ (u : Verdict). written u (levelBytes (iterativeLevels H S (samplesIn xs))) ls) e in
       let q : p′ ≡ over (reportBytes rep) p = f .report ∙ ap (λ (u : Verdict). written u (reportBytes rep) p) e in
-      let back = report-back (outcomeBy (failing H (t .last .z))) (t .k) (failing H (t .last .z)) (changedBits H (t .last .z) (hardBit (samplesIn xs))) in
+      let turned : ℕ = changed (H .n) (decidedIn (startOf S (samplesIn xs) .R)) (t .last .z) (hardBit (samplesIn xs)) in
+      let back = report-back (outcomeBy (failing H (t .last .z))) (t .k) (failing H (t .last .z)) turned in
       record {
         levels = λ j h. ap (λ (x : List ℕ). levelIn (getD x j 0)) l ∙ level-over ls j (largest-most (S .bits) (fits-reads S y .most)) h;
         rounds = ap (λ (x : List ℕ). number16 x 0) q ∙ number-over (reportBytes rep) p 0 (omega arith) ∙ back .rounds;

@@ -20,8 +20,8 @@ use Rattle.byte_numbers.proofs.Lists.{length-entries}
 use Rattle.byte_numbers.proofs.Floats.{length-samples}
 use Rattle.matrix.specs.Paper.Code.{Matrix}
 use Rattle.matrix.specs.Paper.Check.{sizesFit, listOf, checkOf}
-use Rattle.quantiser_levels.specs.Paper.Samples.{Setting, settingFits, hardBit}
-use Rattle.iterative_core.specs.Paper.Iterative.{endFrom, reportAt, samplesVerdict, iterativeVerdict, iterativeOf, iterativeWord, iterativeLevels}
+use Rattle.quantiser_levels.specs.Paper.Samples.{Setting, settingFits}
+use Rattle.iterative_core.specs.Paper.Iterative.{startOf, endFrom, reportAt, samplesVerdict, iterativeVerdict, iterativeOf, iterativeWord, iterativeLevels}
 use Rattle.firmware_codes.specs.Paper.Codes.{resultOf, reportBytes, levelBytes}
 use Rattle.firmware_asking.specs.Paper.Asked.{faceMatrix, faceCheck, wrongBytes, bytesVerdict, faceVerdict}
 use Rattle.firmware_decoding.specs.Paper.Said.{faceReport, faceOf}
@@ -76,7 +76,7 @@ pub says-same : (n m rho gamma : ℕ) (bs : List ℕ) (S : Setting) (xs : List �
 unfolding faceOf faceReport iterativeOf
 says-same n m rho gamma bs S xs word levels report whole =
     let H : Matrix = faceMatrix n m rho gamma bs in
-    ap (λ (v : Verdict). after v (reportAt H (hardBit (samplesIn xs)) (endFrom H S (samplesIn xs)))) (asks-same n m rho gamma bs S xs word levels report whole)
+    ap (λ (v : Verdict). after v (reportAt H (startOf S (samplesIn xs)) (endFrom H S (samplesIn xs)))) (asks-same n m rho gamma bs S xs word levels report whole)
 
 -- the bytes of the answer, which a refusal does not write
 report-same : (v : Verdict) (s : Said) (p : List ℕ) → written v (reportBytes s) p ≡ written v (reportBytes (after v s)) p

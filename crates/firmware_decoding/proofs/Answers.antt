@@ -23,8 +23,8 @@ use Rattle.matrix.specs.Paper.Code.{Matrix}
 use Rattle.matrix.specs.Paper.Check.{checkOf}
 use Rattle.matrix.specs.Paper.Shapes.{matrixOf}
 use Rattle.matrix.specs.declared.Shape.{Shape}
-use Rattle.quantiser_levels.specs.Paper.Samples.{Setting, hardBit}
-use Rattle.iterative_core.specs.Paper.Iterative.{endFrom, reportAt, iterativeWord, iterativeLevels}
+use Rattle.quantiser_levels.specs.Paper.Samples.{Setting}
+use Rattle.iterative_core.specs.Paper.Iterative.{startOf, endFrom, reportAt, iterativeWord, iterativeLevels}
 use Rattle.iterative_core.specs.Calls.{Decoded}
 use Rattle.firmware_codes.specs.Paper.Codes.{reportBytes, levelBytes}
 use Rattle.firmware_decoding.specs.Paper.Said.{faceReport}
@@ -90,8 +90,8 @@ unfolding faceReport
 answered-decoded {H = H} {S = S} {w = w} {ls = ls} {p = p} e q d =
     answered-by e
     (record {
-      answer = d .answer ∙ ap (λ (x : List Float). reportAt H (hardBit x) (endFrom H S x)) q;
+      answer = d .answer ∙ ap (λ (x : List Float). reportAt H (startOf S x) (endFrom H S x)) q;
       word = d .word ∙ ap (λ (x : List Float). over (iterativeWord H S x) w) q;
       levels = d .levels ∙ ap (λ (x : List Float). over (levelBytes (iterativeLevels H S x)) ls) q;
-      report = d .report ∙ ap (λ (x : List Float). over (reportBytes (reportAt H (hardBit x) (endFrom H S x))) p) q;
+      report = d .report ∙ ap (λ (x : List Float). over (reportBytes (reportAt H (startOf S x) (endFrom H S x))) p) q;
     })

@@ -17,8 +17,8 @@ use Rattle.byte_numbers.specs.Paper.Numbers.{samplesIn}
 use Rattle.matrix.specs.Paper.Code.{Matrix}
 use Rattle.matrix.specs.Paper.Check.{checkOf}
 use Rattle.matrix.specs.Paper.PlainCheck.{Accepted}
-use Rattle.quantiser_levels.specs.Paper.Samples.{Setting, settingFits, hardBit, firstNotFinite}
-use Rattle.iterative_core.specs.Paper.Iterative.{endFrom, reportAt, iterativeWord, iterativeLevels}
+use Rattle.quantiser_levels.specs.Paper.Samples.{Setting, settingFits, firstNotFinite}
+use Rattle.iterative_core.specs.Paper.Iterative.{startOf, endFrom, reportAt, iterativeWord, iterativeLevels}
 use Rattle.firmware_codes.specs.Paper.Codes.{reportBytes, levelBytes}
 use Rattle.firmware_asking.specs.Paper.Asked.{bytesVerdict}
 use Rattle.firmware_decoding.specs.Paper.Said.{faceReport}
@@ -35,10 +35,10 @@ pub record OutLent (H : Matrix) (S : Setting) (fs : List Float) (word levels rep
 
 -- the word w becomes w′, the levels ls become ls′, the report p becomes p′
 pub record DecodedOut (H : Matrix) (S : Setting) (fs : List Float) (said : Said) (w w′ ls ls′ p p′ : List ℕ) : Type 0 where
-  pub answer : said ≡ reportAt H (hardBit fs) (endFrom H S fs)
+  pub answer : said ≡ reportAt H (startOf S fs) (endFrom H S fs)
   pub word : w′ ≡ over (iterativeWord H S fs) w
   pub levels : ls′ ≡ over (levelBytes (iterativeLevels H S fs)) ls
-  pub report : p′ ≡ over (reportBytes (reportAt H (hardBit fs) (endFrom H S fs))) p
+  pub report : p′ ≡ over (reportBytes (reportAt H (startOf S fs) (endFrom H S fs))) p
 
 -- the same of the samples that the bytes xs are, where v accepts; a refusal keeps all three
 pub record Answered (v : Verdict) (H : Matrix) (S : Setting) (xs : List ℕ) (said : Said) (w w′ ls ls′ p p′ : List ℕ) : Type 0 where

@@ -16,8 +16,8 @@ use borrow.Author.Tests.{eq-eqb, ne-eqb}
 use lib.Ieee.{Float}
 use Rattle.answers.specs.Paper.Answers.{Verdict, accepted, refused, Said, refusal, report, outcomeBy, after}
 use Rattle.matrix.specs.Paper.Code.{Matrix, failing}
-use Rattle.quantiser_levels.specs.Paper.Samples.{Setting, largest, hardBit}
-use Rattle.iterative_core.specs.Paper.Iterative.{startOf, changedBits, endFrom, reportAt, iterativeVerdict, iterativeOf}
+use Rattle.quantiser_levels.specs.Paper.Samples.{Setting, largest}
+use Rattle.iterative_core.specs.Paper.Iterative.{startOf, endFrom, reportAt, iterativeVerdict, iterativeOf}
 use Rattle.iterative_rounds.specs.Paper.Ends.{Promised}
 use Rattle.iterative_rounds.proofs.Ends.{rounds-within, fails-at-limit}
 
@@ -56,9 +56,8 @@ pub answer-promised : (H : Matrix) (S : Setting) (xs : List Float) (bytes levels
 unfolding iterativeOf reportAt endFrom
 answer-promised H S xs bytes levels o k f c e =
     let at-end = endFrom H S xs in
-    let q : report (outcomeBy (failing H (at-end .last .z))) (at-end .k) (failing H (at-end .last .z))
-    (changedBits H (at-end .last .z) (hardBit xs)) ≡ report o k f c =
-    said-report (iterativeVerdict H S xs bytes levels) (reportAt H (hardBit xs) at-end) o k f c e in
+    let q : report (outcomeBy (failing H (at-end .last .z))) (at-end .k) (failing H (at-end .last .z)) _ ≡ report o k f c =
+    said-report (iterativeVerdict H S xs bytes levels) (reportAt H (startOf S xs) at-end) o k f c e in
     let qo : outcomeBy (failing H (at-end .last .z)) ≡ o = cc in
     let qk : at-end .k ≡ k = cc in
     let qf : failing H (at-end .last .z) ≡ f = cc in

@@ -1,4 +1,3 @@
-pub mod Changes
 pub mod Loans
 pub mod Questions
 pub mod Results

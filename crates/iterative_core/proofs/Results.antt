@@ -5,37 +5,37 @@
 --   start-bound       == the levels at the start lie from -L to L
 --   states-bound      == so do those after k rounds
 --   end-bound         == so do those at the end
---   packed-room       == a buffer with room for a word still has it after one is packed into it
 --   run-lent          == the arrays of a call may be lent to the rounds
---   call-hard         == the hard bits are bits
 --   call-bits         == the bits where the decoder stops are bits
 --   call-restorable   == the levels where it stops can be written back
---   call-decoded      == what is packed, stored and counted of them is what the call leaves
+--   call-decoded      == what is packed, stored and counted by the marks of the start is what the call leaves
 -- Assumes nothing.
-use mathlib.Core.Path.{_≡_, sym, ap, ap₂, _∙_}
+use mathlib.Core.Path.{_≡_, sym, ap, _∙_}
 use mathlib.Core.Bool.{true}
 use mathlib.Core.List.{List}
-use Prim.Native.Nat.{ℕ, _+_, _-_, _*_, _≤_, _<_}
+use Prim.Native.Nat.{ℕ, _≤_, _<_}
 use native.Mathlib.Omega.{arith}
 use lib.IntN.{ℤ, pos, natAbs}
 use lib.Ieee.{Float, nan}
-use lib.ListN.{length, getD, take}
+use lib.ListN.{length, getD}
 use Rattle.counting.specs.Paper.Lists.{listed, over}
 use Rattle.counting.specs.Places.{at}
-use Rattle.counting.proofs.Writes.{length-listed, getD-listed, listed-cong, length-over, getD-over-new, take-over, over-over}
+use Rattle.counting.proofs.Writes.{length-listed, getD-listed, listed-cong, length-over, getD-over-new, over-over}
 use Rattle.answers.specs.Paper.Answers.{Said, report, outcomeBy}
-use Rattle.packed_word.specs.Paper.Packed.{bitAt, bytesFor, pack, distance}
-use Rattle.packed_word.proofs.Packed.{length-pack, bitAt-pack, spare-pack, pack-cong}
-use Rattle.packed_word.proofs.Distances.{distance-cong, distance-spare}
+use Rattle.packed_word.specs.Paper.Packed.{pack}
+use Rattle.packed_word.proofs.Packed.{pack-cong}
 use Rattle.matrix.specs.Paper.Code.{Matrix}
-use Rattle.quantiser_levels.specs.Paper.Samples.{Setting, settingFits, largest, levelOf, levelsOf, hardBit}
+use Rattle.quantiser_levels.specs.Paper.Samples.{Setting, settingFits, largest, levelOf, levelsOf}
 use Rattle.quantiser.specs.Buffers.{Filled}
 use Rattle.quantiser_settings.proofs.Ranges.{fits-reads, largest-most, level-bound, hard-bit-at}
 use Rattle.iterative_levels.specs.Levels.{biased, unbiased, Bounded, Biased, Restorable}
 use Rattle.iterative_levels.proofs.Levels.{biased-le}
+use Rattle.iterative_changed.specs.Paper.Changed.{decided, decidedIn, changed, levelAt}
+use Rattle.iterative_changed.specs.Marks.{markedBy, turnedBelow}
+use Rattle.iterative_changed.proofs.Changes.{changed-cong}
+use Rattle.iterative_changed.proofs.Marks.{marks-changed}
 use Rattle.iterative_rounds.specs.Paper.Rounds.{endOf}
-use Rattle.iterative_core.specs.Paper.Iterative.{startOf, changedBits, endFrom, reportAt, iterativeWord, iterativeLevels}
-use Rattle.iterative_core.proofs.Changes.{changed-all}
+use Rattle.iterative_core.specs.Paper.Iterative.{startOf, endFrom, reportAt, iterativeWord, iterativeLevels}
 use Rattle.iterative_rounds.specs.Paper.Ends.{stateAt}
 use Rattle.iterative_rounds.specs.Alike.{Alike, AlikeEnds}
 use Rattle.iterative_rounds.specs.Runs.{stateOf, Holds, RunLent, Stopped, RunLeft}
@@ -109,25 +109,6 @@ unfolding endFrom
 end-bound H S xs j =
     rw (end-state H (largest (S .bits)) (S .limit) (startOf S xs)) (states-bound H S xs (endOf H (largest (S .bits)) 0 (S .limit) (startOf S xs) .k) j)
 
--- ---- packed words differ where their bits do: the spare places of both are clear
-
-packed-distance : (n : ℕ) (z c : ℕ → ℕ) → ((j : ℕ) → j < n → z j < 2) → ((j : ℕ) → j < n → c j < 2)
-    → distance (8 * bytesFor n) (bitAt (pack n z)) (bitAt (pack n c)) ≡ distance n z c
-packed-distance n z c hz hc =
-    let e : n + (8 * bytesFor n - n) ≡ 8 * bytesFor n = omega arith in
-    ap (λ (x : ℕ). distance x (bitAt (pack n z)) (bitAt (pack n c))) (sym e)
-    ∙ distance-spare n (8 * bytesFor n - n) (bitAt (pack n z)) (bitAt (pack n c)) (λ j l m. spare-pack n z hz j l ∙ sym (spare-pack n c hc j l))
-    ∙ distance-cong n (λ j l. bitAt-pack n z hz j l) (λ j l. bitAt-pack n c hc j l)
-
--- the front of a buffer that a word was packed into
-packed-front : (n : ℕ) (z : ℕ → ℕ) (old new : List ℕ) → new ≡ over (pack n z) old → take (bytesFor n) new ≡ pack n z
-packed-front n z old new e =
-    ap (take (bytesFor n)) e ∙ ap (λ (k : ℕ). take k (over (pack n z) old)) (sym (length-pack n z)) ∙ take-over (pack n z) old
-
--- which is as long as it was
-pub packed-room : (n : ℕ) (z : ℕ → ℕ) (old new : List ℕ) → new ≡ over (pack n z) old → bytesFor n ≤ length old → bytesFor n ≤ length new
-packed-room n z old new e h = omega (arith, ap length e, length-over (pack n z) old (omega (arith, length-pack n z)))
-
 -- ---- the whole of an accepted call
 
 module _ (H : Matrix) (S : Setting) (xs : List Float) (w : List ℕ) (ls : List ℤ) (lent : CallLent H S xs w ls) (ls₁ : List ℤ) (z x : List ℕ)
@@ -147,6 +128,11 @@ module _ (H : Matrix) (S : Setting) (xs : List Float) (w : List ℕ) (ls : List 
         word = holds-word H (largest (S .bits)) z x (startOf S xs) h;
         within = λ j l. omega (arith, h .levels j l, biased-le (largest (S .bits)) (startOf S xs .R j) (h .within j l));
       }
+
+  -- the levels written are those of the start
+  level-start : (j : ℕ) → j < H .n → levelAt ls₁ j ≡ startOf S xs .R j
+  unfolding startOf
+  level-start j l = level-at S xs ls ls₁ (start .levels) j (omega (arith, lent .samples))
 
   start-bits : (j : ℕ) → j < H .n → at z j < 2
   start-bits j l = omega (arith, holds-start .word j l, holds-start .bit j l)
@@ -189,21 +175,17 @@ module _ (H : Matrix) (S : Setting) (xs : List Float) (w : List ℕ) (ls : List 
     level-count f = length-listed (H .n) f ∙ sym (lent .samples) ∙ sym (length-listed (length xs) (λ j. levelOf S (getD xs j nan)))
 
     -- the answer, the word and the levels
-    counted : (hard₀ hard w′ : List ℕ) → hard ≡ over (pack (H .n) (at z)) hard₀ → w′ ≡ over (pack (H .n) (at z′)) w
-        → distance (8 * bytesFor (H .n)) (bitAt (take (bytesFor (H .n)) w′)) (bitAt (take (bytesFor (H .n)) hard)) ≡ changedBits H
-        (endFrom H S xs .last .z) (hardBit xs)
-    unfolding startOf
-    counted hard₀ hard w′ eh ew =
-        ap₂ (λ (a b : List ℕ). distance (8 * bytesFor (H .n)) (bitAt a) (bitAt b)) (packed-front (H .n) (at z′) w w′ ew)
-        (packed-front (H .n) (at z) hard₀ hard eh)
-        ∙ packed-distance (H .n) (at z′) (at z) stop-bits start-bits
-        ∙ distance-cong (H .n) (stopped .holds .word) (holds-start .word)
-        ∙ sym (changed-all H (endFrom H S xs .last .z) (hardBit xs))
+    counted : (old marks : List ℕ) → marks ≡ over (listed (H .n) (markedBy ls₁ (at z))) old
+        → turnedBelow (H .n) (at marks) (at z′) ≡ changed (H .n) (decidedIn (startOf S xs .R)) (endFrom H S xs .last .z) (startOf S xs .z)
+    counted old marks e =
+        marks-changed (H .n) ls₁ (at z) (at z′) old marks e start-bits stop-bits
+        ∙ changed-cong (H .n) (λ j l. ap decided (level-start j l)) (stopped .holds .word) (holds-start .word)
 
-    reported : (changed : ℕ) (said : Said) → changed ≡ changedBits H (endFrom H S xs .last .z) (hardBit xs) → said ≡ report (outcomeBy f) k f changed
-        → said ≡ reportAt H (hardBit xs) (endFrom H S xs)
+    reported : (count : ℕ) (said : Said)
+        → count ≡ changed (H .n) (decidedIn (startOf S xs .R)) (endFrom H S xs .last .z) (startOf S xs .z) → said ≡ report (outcomeBy f) k f count
+        → said ≡ reportAt H (startOf S xs) (endFrom H S xs)
     unfolding reportAt
-    reported changed said ec es = rw (es, ec, stopped .fails, stopped .rounds)
+    reported count said ec es = rw (es, ec, stopped .fails, stopped .rounds)
 
     word-written : (w′ : List ℕ) → w′ ≡ over (pack (H .n) (at z′)) w → w′ ≡ over (iterativeWord H S xs) w
     unfolding iterativeWord
@@ -218,13 +200,13 @@ module _ (H : Matrix) (S : Setting) (xs : List Float) (w : List ℕ) (ls : List 
         ∙ over-over (listed (H .n) u) (levelsOf S xs) ls (level-count u)
         ∙ ap (λ (a : List ℤ). over a ls) (listed-cong (H .n) u (endFrom H S xs .last .R) level-back)
 
-    decoded : (hard₀ hard w′ : List ℕ) (ls′ : List ℤ) (changed : ℕ) (said : Said) → hard ≡ over (pack (H .n) (at z)) hard₀ → w′ ≡ over (pack (H .n) (at z′)) w
-        → ls′ ≡ over (listed (H .n) (unbiased (largest (S .bits)) x′)) ls₁
-        → changed ≡ distance (8 * bytesFor (H .n)) (bitAt (take (bytesFor (H .n)) w′)) (bitAt (take (bytesFor (H .n)) hard))
-        → said ≡ report (outcomeBy f) k f changed → Decoded H S xs said w w′ ls ls′
-    decoded hard₀ hard w′ ls′ changed said eh ew el ec es =
+    decoded : (old marks w′ : List ℕ) (ls′ : List ℤ) (count : ℕ) (said : Said) → marks ≡ over (listed (H .n) (markedBy ls₁ (at z))) old
+        → w′ ≡ over (pack (H .n) (at z′)) w → ls′ ≡ over (listed (H .n) (unbiased (largest (S .bits)) x′)) ls₁
+        → count ≡ turnedBelow (H .n) (at marks) (at z′)
+        → said ≡ report (outcomeBy f) k f count → Decoded H S xs said w w′ ls ls′
+    decoded old marks w′ ls′ count said em ew el ec es =
         record {
-          answer = reported changed said (ec ∙ counted hard₀ hard w′ eh ew) es;
+          answer = reported count said (ec ∙ counted old marks em) es;
           word = word-written w′ ew;
           levels = levels-written ls′ el;
         }
@@ -236,10 +218,6 @@ module _ {H : Matrix} {S : Setting} {xs : List Float} {w : List ℕ} {ls ls₁ :
   -- the arrays of a call may be lent to the rounds
   pub run-lent : RunLent H L z x
   run-lent = rw e (start-lent H S xs w ls lent ls₁ z x start)
-
-  -- the hard bits are bits
-  pub call-hard : (j : ℕ) → j < H .n → at z j < 2
-  call-hard = start-bits H S xs w ls lent ls₁ z x start
 
   module _ {z′ x′ : List ℕ} {k f : ℕ} (ran : RunLeft H L (S .limit) z x z′ x′ k f) where
     by-largest : RunLeft H (largest (S .bits)) (S .limit) z x z′ x′ k f
@@ -253,11 +231,12 @@ module _ {H : Matrix} {S : Setting} {xs : List Float} {w : List ℕ} {ls ls₁ :
     pub call-restorable : Restorable (H .n) L x′ ls₁
     call-restorable = rw e (stop-restorable H S xs w ls lent ls₁ z x start z′ x′ k f by-largest)
 
-    -- what is packed, stored and counted of them is what the call leaves
-    pub call-decoded : (hard₀ : List ℕ) {hard w′ : List ℕ} {ls′ : List ℤ} {changed : ℕ} {said : Said} → hard ≡ over (pack (H .n) (at z)) hard₀
+    -- what is packed, stored and counted by the marks of the start is what the call leaves
+    pub call-decoded : (old : List ℕ) {marks w′ : List ℕ} {ls′ : List ℤ} {count : ℕ} {said : Said}
+        → marks ≡ over (listed (H .n) (markedBy ls₁ (at z))) old
         → w′ ≡ over (pack (H .n) (at z′)) w
         → ls′ ≡ over (listed (H .n) (unbiased L x′)) ls₁
-        → changed ≡ distance (8 * bytesFor (H .n)) (bitAt (take (bytesFor (H .n)) w′)) (bitAt (take (bytesFor (H .n)) hard))
-        → said ≡ report (outcomeBy f) k f changed → Decoded H S xs said w w′ ls ls′
-    call-decoded hard₀ {hard} {w′} {ls′} {changed} {said} eh ew el = decoded H S xs w ls lent ls₁ z x start z′ x′ k f by-largest hard₀ hard w′ ls′
-        changed said eh ew (rw e at el)
+        → count ≡ turnedBelow (H .n) (at marks) (at z′)
+        → said ≡ report (outcomeBy f) k f count → Decoded H S xs said w w′ ls ls′
+    call-decoded old {marks} {w′} {ls′} {count} {said} em ew el = decoded H S xs w ls lent ls₁ z x start z′ x′ k f by-largest old marks w′ ls′
+        count said em ew (rw e at el)

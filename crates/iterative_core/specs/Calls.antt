@@ -16,7 +16,7 @@ use Rattle.answers.specs.Paper.Answers.{Said}
 use Rattle.packed_word.specs.Paper.Packed.{bytesFor}
 use Rattle.matrix.specs.Paper.Code.{Matrix}
 use Rattle.matrix.specs.Paper.PlainCheck.{Accepted}
-use Rattle.quantiser_levels.specs.Paper.Samples.{Setting, settingFits, largest, levelsOf, hardBit, firstNotFinite}
+use Rattle.quantiser_levels.specs.Paper.Samples.{Setting, settingFits, largest, levelsOf, firstNotFinite}
 use Rattle.iterative_core.specs.Paper.Iterative.{startOf, endFrom, reportAt, iterativeWord, iterativeLevels}
 use Rattle.iterative_rounds.specs.Runs.{Holds}
 
@@ -37,6 +37,6 @@ pub record Started (S : Setting) (xs : List Float) (ls ls′ : List ℤ) (z z′
 
 -- the word w becomes w′ and the levels ls become ls′
 pub record Decoded (H : Matrix) (S : Setting) (xs : List Float) (said : Said) (w w′ : List ℕ) (ls ls′ : List ℤ) : Type 0 where
-  pub answer : said ≡ reportAt H (hardBit xs) (endFrom H S xs)
+  pub answer : said ≡ reportAt H (startOf S xs) (endFrom H S xs)
   pub word : w′ ≡ over (iterativeWord H S xs) w
   pub levels : ls′ ≡ over (iterativeLevels H S xs) ls

@@ -1,5 +1,5 @@
 // Iterative voting on a matrix, a setting and samples that are known to be accepted, and what is asked of setting and samples before.
-// Rests on `iterative_rounds`, `quantiser`, `packed_word` and `packed_distance`. Document 01: "Iterative voting"; refusals 6 to 8.
+// Rests on `iterative_rounds`, `iterative_changed`, `quantiser` and `packed_word`. Document 01: "Iterative voting"; refusals 6 to 8. Document 02: card 6.
 use answers::Checked;
 use answers::Refusal;
 use answers::Report;
@@ -9,10 +9,9 @@ use quantiser::Setting;
 use quantiser_levels::Cell;
 use quantiser_levels::largest_of;
 ghost use mathlib.Core.Path.{_≡_};
-ghost use Prim.Native.Nat.{_*_, _≤_};
-ghost use lib.ListN.{length, take};
+ghost use Prim.Native.Nat.{_≤_};
+ghost use lib.ListN.{length};
 ghost use Rattle.answers.specs.Paper.Enums.{verdictOf, reportOf};
-ghost use Rattle.packed_word.specs.Paper.Packed.{bitAt, bytesFor, distance};
 ghost use Rattle.matrix.specs.Paper.Shapes.{matrixOf};
 ghost use Rattle.quantiser_levels.specs.Paper.Samples.{largest};
 ghost use Rattle.quantiser_settings.specs.Paper.Settings.{settingOf};
@@ -46,15 +45,6 @@ pub fn ask_samples(
         return Checked::Refused(Refusal::Sample(place));
     }
     Checked::Accepted
-}
-
-// At how many places the word differs from the packed hard bits. Both have the bytes of n bits at the front.
-fn changed_bits(word: &[u8], hard: &[u8], n: usize) -> u16
-    requires { ⌜ (n ≤ 1023) × (bytesFor n ≤ length (now word)) × (bytesFor n ≤ length (now hard)) ⌝ }
-    ensures { λ r. ⌜ r ≡ distance (8 * bytesFor n) (bitAt (take (bytesFor n) (now (word .entry)))) (bitAt (take (bytesFor n) (now (hard .entry)))) ⌝ }
-{
-    let bytes = (n + 7) / 8;
-    packed_distance::differing(&word[..bytes], &hard[..bytes])
 }
 
 // Step 1: the samples' levels, written to the caller's buffer and kept for the rounds, and their hard bits.
@@ -93,12 +83,12 @@ pub fn iterative_accepted(
     let middle = largest_of(setting.bits);
     let mut bits = [0u8; 1023];
     let mut kept: [Kept; 1023] = [0; 1023];
-    let mut hard = [0u8; 128];
+    let mut marks = [0u8; 1023];
     start(setting, samples, middle, levels, &mut bits, &mut kept);
-    packed_word::pack_into(&bits, n, &mut hard);
+    iterative_changed::mark(levels, &bits, n, &mut marks);
     let stop = iterative_rounds::run(shape, list, index, limit, middle, &mut bits, &mut kept);
     packed_word::pack_into(&bits, n, word);
     iterative_levels::unbias(&kept, n, middle, levels);
-    let changed = changed_bits(word, &hard, n);
+    let changed = iterative_changed::turned(&marks, &bits, n);
     answers::ended(stop.rounds, stop.failing, changed)
 }

@@ -23,8 +23,8 @@ use Rattle.matrix.specs.Paper.Check.{checkOf}
 use Rattle.matrix_index.specs.Paper.Index.{indexOf}
 use Rattle.matrix_index_check.specs.Paper.Call.{indexedVerdict}
 use Rattle.matrix_index_check.proofs.Claims.{numbered, step-number, own-alike, ten-else, ten-only, one-refused}
-use Rattle.quantiser_levels.specs.Paper.Samples.{Setting, settingFits, hardBit, firstNotFinite}
-use Rattle.iterative_core.specs.Paper.Iterative.{samplesVerdict, iterativeVerdict, iterativeOf, reportAt, endFrom, iterativeWord, iterativeLevels}
+use Rattle.quantiser_levels.specs.Paper.Samples.{Setting, settingFits, firstNotFinite}
+use Rattle.iterative_core.specs.Paper.Iterative.{startOf, samplesVerdict, iterativeVerdict, iterativeOf, reportAt, endFrom, iterativeWord, iterativeLevels}
 use Rattle.iterative_core.specs.Paper.Call.{IterativeAnswered}
 use Rattle.iterative_indexed.specs.Paper.Call.{iterativeIndexedVerdict, iterativeIndexedOf, IterativeIndexedAnswered}
 
@@ -51,7 +51,7 @@ module _ (H : Matrix) (x : List ℕ) (S : Setting) (xs : List Float) (w : List �
   -- and says what iterative voting says
   pub says-alike : x ≡ indexOf H → iterativeIndexedOf H x S xs (length w) (length ls) ≡ iterativeOf H S xs (length w) (length ls)
   unfolding iterativeIndexedOf iterativeOf
-  says-alike e = ap (λ (v : Verdict). after v (reportAt H (hardBit xs) (endFrom H S xs))) (verdict-alike e)
+  says-alike e = ap (λ (v : Verdict). after v (reportAt H (startOf S xs) (endFrom H S xs))) (verdict-alike e)
 
   module _ (said : Said) (w′ : List ℕ) (ls′ : List ℤ) (own : x ≡ indexOf H) where
     -- it is the matrix's own: what iterative voting answers

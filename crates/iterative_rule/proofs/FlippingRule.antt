@@ -1,4 +1,6 @@
 -- The flipping rule for iterative voting, on samples and bytes: the claims of specs/Paper/Claims.antt, for every call that is not refused.
+--   wrong-least      == no more wrong bits had a level than were wrong
+--   wrong-decided    == where no sample is undecided, all of them had one
 --   iterative-rule   == every codeword changed within the half is recovered where the round limit leaves the rounds for it
 --   ample-limit      == a limit of L / 2 + 1 leaves them
 --   one-round        == with b = 2 a limit of 1 does, and the rounds are those of one-step voting
@@ -13,12 +15,11 @@ use native.Mathlib.Omega.{arith}
 use native.Mathlib.Decide.{ℕ-discrete}
 use borrow.Author.Tests.{eq-eqb, ne-eqb}
 use lib.Dec.{eqb}
-use lib.IntN.{ℤ}
+use lib.IntN.{ℤ, pos}
 use lib.Ieee.{Float, nan}
 use lib.ListN.{length, getD}
 use Rattle.answers.specs.Paper.Answers.{Said, report, written}
 use Rattle.packed_word.specs.Paper.Packed.{bitAt}
-use Rattle.packed_word.proofs.Distances.{distance-cong, distance-sym}
 use Rattle.matrix.specs.Paper.Code.{Matrix, weight}
 use Rattle.matrix.proofs.Weights.{weight-least}
 use Rattle.quantiser_levels.specs.Paper.Samples.{Setting, largest, levelOf, hardBit}
@@ -26,14 +27,27 @@ use Rattle.quantiser_settings.proofs.Ranges.{fits-reads, largest-some, level-bo
 use Rattle.majority_logic.proofs.FlippingRule.{sent-codeword, pack-is}
 use Rattle.iterative_levels.specs.Levels.{biased}
 use Rattle.iterative_levels.proofs.Levels.{biased-le}
-use Rattle.iterative_core.specs.Paper.Iterative.{startOf, changedBits, endFrom, reportAt, iterativeVerdict, iterativeOf, iterativeWord}
+use Rattle.iterative_changed.specs.Paper.Changed.{decidedIn, changed}
+use Rattle.iterative_changed.proofs.Changes.{changed-cong, changed-sym, changed-least, changed-decided}
+use Rattle.iterative_core.specs.Paper.Iterative.{startOf, endFrom, reportAt, iterativeVerdict, iterativeOf, iterativeWord}
 use Rattle.iterative_core.specs.Calls.{CallLent}
-use Rattle.iterative_core.proofs.Changes.{changed-all}
 use Rattle.iterative_core.proofs.Loans.{verdict-lent}
-use Rattle.iterative_rule.specs.Paper.Claims.{wrongBits, stride, roundsFor, SamplesWithinHalf, EndsRight, IterativeRule, AmpleLimit, OneRound}
+use Rattle.iterative_rule.specs.Paper.Claims.{wrongBits, wrongDecided, stride, roundsFor, SamplesWithinHalf, EndsRight}
+use Rattle.iterative_rule.specs.Paper.Claims.{IterativeRule, AmpleLimit, OneRound}
 use Rattle.iterative_rule.proofs.Sides.{hard-high, hard-firm, hard-low}
 use Rattle.iterative_rule.proofs.Approach.{Nearing}
 use Rattle.iterative_rule.proofs.Ends.{rounds-most, rounds-one, end-right}
+
+-- ---- the wrong bits that had a level
+
+module _ (H : Matrix) (S : Setting) (c : List ℕ) (xs : List Float) where
+  -- no more than were wrong
+  pub wrong-least : wrongDecided H S c xs ≤ wrongBits H c xs
+  wrong-least = changed-least (H .n) (decidedIn (startOf S xs .R)) (hardBit xs) (bitAt c)
+
+  -- all of them where no sample is undecided
+  pub wrong-decided : ((j : ℕ) → j < H .n → startOf S xs .R j ≡ pos 0 → ⊥) → wrongDecided H S c xs ≡ wrongBits H c xs
+  wrong-decided some = changed-decided (H .n) (startOf S xs .R) (hardBit xs) (bitAt c) some
 
 -- ---- a call near a codeword
 
@@ -83,14 +97,15 @@ module _ (H : Matrix) (S : Setting) (xs : List Float) (w : List ℕ) (ls : List 
         end-right H (lent .matrix .rows) (H .gamma) heavy L some (bitAt c) (sent-codeword H c (h .sent)) (startOf S xs) (wrongBits H c xs) refl
         half near-start (S .limit) time
 
-    call-changed : changedBits H (endFrom H S xs .last .z) (hardBit xs) ≡ wrongBits H c xs
+    -- what is counted as changed is what was wrong
+    call-changed : changed (H .n) (decidedIn (startOf S xs .R)) (endFrom H S xs .last .z) (startOf S xs .z) ≡ wrongDecided H S c xs
+    unfolding startOf
     call-changed =
-        changed-all H (endFrom H S xs .last .z) (hardBit xs)
-        ∙ distance-cong (H .n) (call-ends .right) (λ j l. refl)
-        ∙ distance-sym (H .n) (bitAt c) (hardBit xs)
+        changed-cong (H .n) (λ j l. refl) (call-ends .right) (λ j l. refl)
+        ∙ changed-sym (H .n) (decidedIn (startOf S xs .R)) (bitAt c) (hardBit xs)
 
     -- what is reported
-    call-says : reportAt H (hardBit xs) (endFrom H S xs) ≡ report 0 (endFrom H S xs .k) 0 (wrongBits H c xs)
+    call-says : reportAt H (startOf S xs) (endFrom H S xs) ≡ report 0 (endFrom H S xs .k) 0 (wrongDecided H S c xs)
     unfolding reportAt
     call-says = rw (call-ends .clean, call-changed)
 
@@ -131,7 +146,7 @@ module _ (H : Matrix) (S : Setting) (xs : List Float) (old new : List ℕ) (ls :
       let bound : roundsFor (largest (S .bits)) (H .gamma) t ≡ cond (eqb t 0) 0 1 = rw two (rounds-one (H .gamma) t) in
       let r = rule c e h (omega (arith, rounds-most (largest (S .bits)) (H .gamma) t, bound, at-most-one t)) in
       let k : endFrom H S xs .k ≡ cond (eqb t 0) 0 1 = between (endFrom H S xs .k) t (r .begun) (omega (arith, r .soon, bound)) in
-      (r .says ∙ ap (λ (x : ℕ). report 0 x 0 t) k, r .word)
+      (r .says ∙ ap (λ (x : ℕ). report 0 x 0 (wrongDecided H S c xs)) k, r .word)
     where
       at-most-one : (t : ℕ) → cond (eqb t 0) 0 1 ≤ 1
       at-most-one t = elim (ℕ-discrete t 0) [ yes e ↦ rw (eq-eqb t 0 e) (omega arith) | no ne ↦ rw (ne-eqb t 0 ne) (omega arith) ]

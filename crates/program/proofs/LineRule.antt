@@ -19,7 +19,7 @@ use Rattle.matrix.specs.Paper.Code.{Matrix}
 use Rattle.matrix.proofs.PlainCheck.{is-accepted}
 use Rattle.quantiser_levels.specs.Paper.Samples.{Setting, largest}
 use Rattle.iterative_core.specs.Paper.Iterative.{endFrom, samplesVerdict, iterativeVerdict, iterativeWord}
-use Rattle.iterative_rule.specs.Paper.Claims.{wrongBits, roundsFor, SamplesWithinHalf}
+use Rattle.iterative_rule.specs.Paper.Claims.{wrongBits, wrongDecided, roundsFor, SamplesWithinHalf}
 use Rattle.iterative_rule.proofs.FlippingRule.{iterative-rule}
 use Rattle.iterative_rule.proofs.Ends.{rounds-most}
 use Rattle.byte_numbers.specs.Paper.Numbers.{samplesIn}
@@ -61,7 +61,7 @@ module _ (H : Matrix) (S : Setting) (xs : List Float) (d : Decodable H S) (whole
 
   module _ (c : List ℕ) (near : SamplesWithinHalf H S c xs) (time : roundsFor (largest (S .bits)) (H .gamma) (wrongBits H c xs) ≤ S .limit) where
     -- and what it says is what the block says
-    block-says : blockSaid H S xs ≡ report 0 (endFrom H S xs .k) 0 (wrongBits H c xs)
+    block-says : blockSaid H S xs ≡ report 0 (endFrom H S xs .k) 0 (wrongDecided H S c xs)
     block-says =
         let r = iterative-rule H S xs (cleared (H .n)) (flat (H .n)) c asked near time in
         sym (block-is-call H S xs (length (cleared (H .n))) (length (flat (H .n))) d whole (omega (arith, cleared-long (H .n)))

@@ -22,7 +22,8 @@ use Rattle.matrix.specs.Paper.Code.{entry, has, weight, common, fails, failing}
 use Rattle.matrix.specs.Paper.Check.{sizesFit, badEntry, badWeight, noLeast, overlapping, listOf, checkOf}
 use Rattle.quantiser_levels.specs.Paper.Samples.{stepFits, settingFits, nearestWhole, magnitude, levelOf, hardOf, hardBit, notFinite}
 use Rattle.iterative_rounds.specs.Paper.Rounds.{others, extrinsic, levelAfter, roundOf, endOf}
-use Rattle.iterative_core.specs.Paper.Iterative.{startOf, changedIn, changedBits, endFrom, reportAt, iterativeWord}
+use Rattle.iterative_changed.specs.Paper.Changed.{decided, changed}
+use Rattle.iterative_core.specs.Paper.Iterative.{startOf, endFrom, reportAt, iterativeWord}
 use Rattle.program_numerals.specs.Paper.Numerals.{ascii, digit, digitsWithin, decimal, hex}
 use Rattle.program_text.specs.Paper.Output.{line, heading, shortText, refusedText, saidText, blockText}
 use Rattle.byte_numbers.specs.Paper.Numbers.{number16, number32, float, entryIn, entriesIn, sampleIn, samplesIn}
@@ -70,7 +71,7 @@ table =
     -- the input ends inside its second block
     ∷ run (inputA 0 (blockP6 ++ take 5 blockP6)) "0 decoded 1 0 1 00\nshort\n"
     -- a block refused by 8 between two others
-    ∷ run (inputA 0 (blockP6 ++ blockInfinite ++ blockP8)) "0 decoded 1 0 1 00\n1 refused 8 4\n2 decoded 1 0 7 00\n"
+    ∷ run (inputA 0 (blockP6 ++ blockInfinite ++ blockP8)) "0 decoded 1 0 1 00\n1 refused 8 4\n2 decoded 1 0 0 00\n"
     -- no block; a third kind of step
     ∷ run (inputA 0 []) ""
     ∷ run (inputA 2 blockP6) "refused 6 0\n"
@@ -96,6 +97,6 @@ unfolding table eachMade eachWanted inputA blockP6 blockInfinite blockP8 low16 l
     blockAt blockLine blockSaid blockVerdict settingVerdict openingVerdict number16 number32 float matrixIn entryIn entriesIn settingIn sampleIn
     samplesIn digit digitsWithin decimal hex line heading shortText refusedText saidText blockText checkOf listOf sizesFit badEntry badWeight noLeast
     overlapping failing fails common weight has entry distance pack packedByte bitAt listed over anyBelow first sumBelow same unequal sumℤ stepFits
-    settingFits nearestWhole magnitude levelOf hardOf hardBit notFinite others extrinsic levelAfter roundOf endOf startOf changedBits changedIn
+    settingFits nearestWhole magnitude levelOf hardOf hardBit notFinite others extrinsic levelAfter roundOf endOf startOf changed decided
     endFrom reportAt iterativeWord ofBits ofFields odd lt le eq
 every-run = refl

@@ -18,8 +18,8 @@ use Rattle.answers.proofs.Verdicts.{fit-lengths}
 use Rattle.packed_word.specs.Paper.Packed.{bytesFor}
 use Rattle.matrix.specs.Paper.Code.{Matrix}
 use Rattle.matrix.proofs.PlainCheck.{is-accepted}
-use Rattle.quantiser_levels.specs.Paper.Samples.{Setting, hardBit}
-use Rattle.iterative_core.specs.Paper.Iterative.{endFrom, reportAt, samplesVerdict, iterativeVerdict, iterativeOf, iterativeWord}
+use Rattle.quantiser_levels.specs.Paper.Samples.{Setting}
+use Rattle.iterative_core.specs.Paper.Iterative.{startOf, endFrom, reportAt, samplesVerdict, iterativeVerdict, iterativeOf, iterativeWord}
 use Rattle.iterative_core.specs.Calls.{Decoded}
 use Rattle.byte_numbers.specs.Paper.Numbers.{samplesIn, notFiniteIn}
 use Rattle.program_input.specs.Paper.Opening.{Decodable}
@@ -52,7 +52,7 @@ module _ (H : Matrix) (S : Setting) (bs : List ℕ) where
   unfolding blockSaid
   answered {w} e q d =
       record {
-        answer = rw e (d .answer ∙ ap (λ (x : List Float). reportAt H (hardBit x) (endFrom H S x)) q);
+        answer = rw e (d .answer ∙ ap (λ (x : List Float). reportAt H (startOf S x) (endFrom H S x)) q);
         word = rw e (d .word ∙ ap (λ (x : List Float). over (iterativeWord H S x) w) q);
       }
 

@@ -12,8 +12,8 @@ use Rattle.answers.specs.Paper.Answers.{Verdict, accepted, refused, Said, after
 use Rattle.packed_word.specs.Paper.Packed.{bytesFor}
 use Rattle.packed_word.proofs.Packed.{length-pack}
 use Rattle.matrix.specs.Paper.Code.{Matrix}
-use Rattle.quantiser_levels.specs.Paper.Samples.{Setting, hardBit}
-use Rattle.iterative_core.specs.Paper.Iterative.{endFrom, reportAt, iterativeWord}
+use Rattle.quantiser_levels.specs.Paper.Samples.{Setting}
+use Rattle.iterative_core.specs.Paper.Iterative.{startOf, endFrom, reportAt, iterativeWord}
 use Rattle.program_text.specs.Paper.Output.{saidText, blockText}
 use Rattle.program_numerals.specs.Texts.{PutWithin}
 use Rattle.program_numerals.proofs.Puts.{put-as}
@@ -24,13 +24,13 @@ use Rattle.program_block.specs.Paper.Block.{blockVerdict, blockSaid, blo
 module _ (H : Matrix) (S : Setting) (i : ℕ) (bs : List ℕ) where
   -- a verdict's line does not read the buffer past the word
   by-verdict : (w : List ℕ) (v : Verdict)
-      → blockText i (after v (reportAt H (hardBit (samplesIn bs)) (endFrom H S (samplesIn bs))))
+      → blockText i (after v (reportAt H (startOf S (samplesIn bs)) (endFrom H S (samplesIn bs))))
       (take (bytesFor (H .n)) (written v (iterativeWord H S (samplesIn bs)) w))
-      ≡ blockText i (after v (reportAt H (hardBit (samplesIn bs)) (endFrom H S (samplesIn bs)))) (iterativeWord H S (samplesIn bs))
+      ≡ blockText i (after v (reportAt H (startOf S (samplesIn bs)) (endFrom H S (samplesIn bs)))) (iterativeWord H S (samplesIn bs))
   unfolding blockText saidText iterativeWord
   by-verdict w accepted =
       let word = iterativeWord H S (samplesIn bs) in
-      ap (blockText i (reportAt H (hardBit (samplesIn bs)) (endFrom H S (samplesIn bs))))
+      ap (blockText i (reportAt H (startOf S (samplesIn bs)) (endFrom H S (samplesIn bs))))
       (ap (λ (k : ℕ). take k (over word w)) (sym (length-pack (H .n) (endFrom H S (samplesIn bs) .last .z))) ∙ take-over word w)
   by-verdict w (refused k x) = refl
 

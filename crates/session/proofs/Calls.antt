@@ -1,6 +1,7 @@
--- One call: what the state then says of the word, and that a session ends within its round limit.
+-- One call: what the state then says of the word, what the opening's levels move, and that a session ends within its round limit.
 --   after-working            == working says that a check fails and that the rounds are not at the limit
 --   open-means, step-means   == after an accepted opening or step the record's state says what holds of the word
+--   opened-counts            == what is lent as the opening's levels moves the count of changed bits alone
 --   ends-within              == a session ends within its round limit
 -- Assumes nothing.
 use mathlib.Core.Path.{_≡_, refl, ap, _∙_}
@@ -9,9 +10,10 @@ use Prim.Native.Nat.{ℕ, suc, _≤_, _<_}
 use native.Mathlib.Omega.{arith}
 use borrow.Author.Tests.{eqb-true, eqb-false}
 use lib.Dec.{eqb}
+use lib.IntN.{ℤ}
 use lib.Ieee.{Float}
 use Rattle.counting.proofs.Searches.{cases}
-use Rattle.answers.specs.Paper.Answers.{accepted}
+use Rattle.answers.specs.Paper.Answers.{Verdict, accepted, refused}
 use Rattle.packed_word.specs.Paper.Packed.{bitAt}
 use Rattle.matrix.specs.Paper.Code.{Matrix, failing}
 use Rattle.matrix.specs.Paper.PlainCheck.{Rows}
@@ -22,9 +24,9 @@ use Rattle.iterative_core.specs.Paper.Iterative.{startOf}
 use Rattle.session_record.specs.Paper.Record.{Course, Record, working, decoded, failed, courseIn, stateAfter}
 use Rattle.session_asking.specs.Paper.Asked.{Held, lent, openVerdict, stepVerdict}
 use Rattle.session_asking.specs.Paper.PlainCalls.{Steppable}
-use Rattle.session.specs.Paper.Steps.{courseFor, heldAt, openedLeft, openOf, steppedState, steppedLeft, stepOf}
-use Rattle.session.specs.Paper.WholeBySteps.{Means, Ran, opened, stepped, step-refused, open-refused, Within}
-use Rattle.session_asking.proofs.Questions.{accepted-open, accepted-step}
+use Rattle.session.specs.Paper.Steps.{Left, courseFor, heldAt, leave, openedLeft, openOf, steppedState, steppedLeft, stepOf}
+use Rattle.session.specs.Paper.WholeBySteps.{exceptChanged, OpenedCounts, Means, Ran, opened, stepped, step-refused, open-refused, Within}
+use Rattle.session_asking.proofs.Questions.{accepted-open, accepted-step, opened-free}
 use Rattle.session.proofs.Kept.{refused-open-keeps, refused-step-keeps, accepted-opens, accepted-steps, start-bits, round-bits}
 use Rattle.session.proofs.Buffers.{bits-back}
 
@@ -69,12 +71,39 @@ open-means H S xs h e =
     rw (accepted-opens H S xs h e)
     (held-means H (accepted-open H S xs h e .matrix .rows) (courseFor S) 0 (startOf S xs) h (start-bits S xs) (omega arith))
 
-pub step-means : (H : Matrix) (w : List ℕ) (h : Held) → stepVerdict H w h ≡ accepted → Means H (stepOf H w h .held .rec) (bitAt (stepOf H w h .held .word))
-step-means H w h e =
-    let s : Steppable H w h = accepted-step H w h e in
-    rw (accepted-steps H w h e)
+pub step-means : (H : Matrix) (w : List ℕ) (o : List ℤ) (h : Held) → stepVerdict H w o h ≡ accepted
+    → Means H (stepOf H w o h .held .rec) (bitAt (stepOf H w o h .held .word))
+step-means H w o h e =
+    let s : Steppable H w o h = accepted-step H w o h e in
+    rw (accepted-steps H w o h e)
     (held-means H (s .matrix .rows) (courseIn (h .rec)) (suc (h .rec .k)) (steppedState H h) h
     (round-bits H _ _) (omega (arith, s .usable .left)))
+
+-- ---- the levels lent as those of the opening
+
+-- what two calls of one verdict leave is alike where it is when they are accepted
+held-by : (v : Verdict) (new new′ : Left) (old : Held) → new .held ≡ new′ .held → leave v new old .held ≡ leave v new′ old .held
+held-by accepted new new′ old e = e
+held-by (refused k x) new new′ old e = refl
+
+-- and so is what they say
+said-by : (v : Verdict) (new new′ : Left) (old : Held) → exceptChanged (new .said) ≡ exceptChanged (new′ .said)
+    → exceptChanged (leave v new old .said) ≡ exceptChanged (leave v new′ old .said)
+said-by accepted new new′ old e = e
+said-by (refused k x) new new′ old e = refl
+
+-- what is lent as the opening's levels moves the count of changed bits alone
+pub opened-counts : (H : Matrix) (w : List ℕ) (h : Held) → OpenedCounts H w h
+unfolding stepOf
+opened-counts H w h =
+    record {
+      held = λ o o′ e.
+          ap (λ (v : Verdict). leave v (steppedLeft H w o h) h .held) (opened-free H w h o o′ e)
+          ∙ held-by (stepVerdict H w o′ h) (steppedLeft H w o h) (steppedLeft H w o′ h) h refl;
+      said = λ o o′ e.
+          ap (λ (v : Verdict). exceptChanged (leave v (steppedLeft H w o h) h .said)) (opened-free H w h o o′ e)
+          ∙ said-by (stepVerdict H w o′ h) (steppedLeft H w o h) (steppedLeft H w o′ h) h refl;
+    }
 
 -- ---- a session ends
 
@@ -86,7 +115,7 @@ within-limit r l k m w =
       counts = k;
       at-most = m;
       if-working = w;
-      further = λ H w′ word levels e. w (accepted-step H w′ (lent r word levels) e .usable .works);
+      further = λ H w′ word o levels e. w (accepted-step H w′ o (lent r word levels) e .usable .works);
     }
 
 -- a session ends within its round limit
@@ -95,13 +124,13 @@ ends-within (opened H S xs h e q) =
     rw (accepted-opens H S xs h e)
     (within-limit (openedLeft H S xs h .held .rec) q refl (omega arith)
     (λ w. let p = after-working (failing H (startOf S xs .z)) (courseFor S) 0 w in omega (arith, p .1)))
-ends-within (stepped {r} {t} p H w word levels e) =
-    let s : Steppable H w (lent r word levels) = accepted-step H w (lent r word levels) e in
+ends-within (stepped {r} {t} p H w word o levels e) =
+    let s : Steppable H w o (lent r word levels) = accepted-step H w o (lent r word levels) e in
     let i : Within _ r t = ends-within p in
-    rw (accepted-steps H w (lent r word levels) e)
-    (within-limit (steppedLeft H w (lent r word levels) .held .rec) (i .same-limit) (ap suc (i .counts))
+    rw (accepted-steps H w o (lent r word levels) e)
+    (within-limit (steppedLeft H w o (lent r word levels) .held .rec) (i .same-limit) (ap suc (i .counts))
     (omega (arith, i .same-limit, i .counts, s .usable .left))
     (λ v. let q = after-working (failing H (steppedState H (lent r word levels) .z)) (courseIn r) (suc (r .k)) v in
     omega (arith, q .1, i .same-limit, i .counts, s .usable .left)))
-ends-within (step-refused {r} {t} p H w word levels k x e) = rw (refused-step-keeps H w (lent r word levels) k x e) (ends-within p)
+ends-within (step-refused {r} {t} p H w word o levels k x e) = rw (refused-step-keeps H w o (lent r word levels) k x e) (ends-within p)
 ends-within (open-refused {r} {t} p H S xs word levels k x e) = rw (refused-open-keeps H S xs (lent r word levels) k x e) (ends-within p)

@@ -10,7 +10,7 @@ use lib.Ieee.{Float}
 use Rattle.answers.specs.Paper.Answers.{report}
 use Rattle.matrix.specs.Paper.Code.{Matrix}
 use Rattle.quantiser_levels.specs.Paper.Samples.{Setting, largest}
-use Rattle.iterative_rule.specs.Paper.Claims.{wrongBits}
+use Rattle.iterative_rule.specs.Paper.Claims.{wrongBits, wrongDecided}
 use Rattle.iterative_rule.proofs.FlippingRule.{iterative-rule}
 use Rattle.iterative_rule.proofs.Ends.{rounds-most}
 use Rattle.session_asking.specs.Paper.Asked.{Held, openVerdict}
@@ -29,7 +29,7 @@ stepping-rule H S xs h c e near time =
       begun = λ wrong. omega (arith, r .begun (omega arith));
       soon = omega (arith, r .soon);
       accepts = a .accepts;
-      says = a .says ∙ r .says ∙ ap (λ (x : ℕ). report 0 x 0 (wrongBits H c xs)) (sym k);
+      says = a .says ∙ r .says ∙ ap (λ (x : ℕ). report 0 x 0 (wrongDecided H S c xs)) (sym k);
       word = a .word ∙ rw e at (r .word);
     }
 

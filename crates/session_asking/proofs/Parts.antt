@@ -1,7 +1,8 @@
 -- What opening and a step ask, part by part.
 --   spare-front                      == the spare places of a word lie in its own bytes
 --   says-known, says-lent            == a step's first part refuses; else its second part speaks
---   says-word, says-beyond           == the second part: the received word is refused; else refusal 23 speaks
+--   says-opened                      == the second part: the opening's levels are not as many as the code's bits
+--   says-word, says-beyond           == else the received word is refused; else refusal 23 speaks
 --   says-open-matrix, says-samples   == of opening, the matrix is refused; else setting and samples speak
 -- Assumes nothing.
 use mathlib.Core.Path.{_≡_, refl, sym, ap, _∙_}
@@ -9,7 +10,9 @@ use mathlib.Core.Bool.{Bool, true, false}
 use mathlib.Core.List.{List}
 use Prim.Native.Nat.{ℕ, _+_, _*_, _-_, _/_, _%_, _^_, _<_}
 use native.Mathlib.Omega.{arith}
+use borrow.Author.Tests.{eq-eqb, ne-eqb}
 use lib.Dec.{eqb}
+use lib.IntN.{ℤ}
 use lib.Ieee.{Float}
 use lib.ListN.{length, take}
 use lib.Seq.{getD-take}
@@ -21,7 +24,7 @@ use Rattle.matrix.specs.Paper.Check.{checkOf}
 use Rattle.syndrome.specs.Paper.Failing.{wordVerdict}
 use Rattle.quantiser_levels.specs.Paper.Samples.{Setting}
 use Rattle.iterative_core.specs.Paper.Iterative.{samplesVerdict, iterativeVerdict}
-use Rattle.session_asking.specs.Paper.Asked.{Held, unusable, ended, otherSizes, beyond, stepVerdict}
+use Rattle.session_asking.specs.Paper.Asked.{Held, unusable, ended, otherSizes, notOpened, beyond, stepVerdict}
 use Rattle.session_asking.specs.Parts.{knownVerdict, lentVerdict}
 
 -- ---- the spare places of a word, by its bytes alone
@@ -48,27 +51,33 @@ chain false false (refused k y) c x = refl
 chain false false accepted true x = refl
 chain false false accepted false x = refl
 
-module _ (H : Matrix) (w : List ℕ) (h : Held) where
-  asked-is : stepVerdict H w h ≡ andThen (knownVerdict H (h .rec)) (lentVerdict H w h)
+module _ (H : Matrix) (w : List ℕ) (o : List ℤ) (h : Held) where
+  asked-is : stepVerdict H w o h ≡ andThen (knownVerdict H (h .rec)) (lentVerdict H w o h)
   unfolding stepVerdict knownVerdict lentVerdict
   asked-is = chain (unusable (h .rec)) (ended (h .rec)) (checkOf H) (otherSizes H (h .rec)) _
 
   -- a refusal of the first part, and what the second part says where the first accepts
-  pub says-known : (k x : ℕ) → knownVerdict H (h .rec) ≡ refused k x → refused k x ≡ stepVerdict H w h
+  pub says-known : (k x : ℕ) → knownVerdict H (h .rec) ≡ refused k x → refused k x ≡ stepVerdict H w o h
   says-known k x e = sym (asked-is ∙ rw e)
 
-  pub says-lent : (v : Verdict) → knownVerdict H (h .rec) ≡ accepted → v ≡ lentVerdict H w h → v ≡ stepVerdict H w h
+  pub says-lent : (v : Verdict) → knownVerdict H (h .rec) ≡ accepted → v ≡ lentVerdict H w o h → v ≡ stepVerdict H w o h
   says-lent v e q = q ∙ sym (asked-is ∙ rw e)
 
-  -- the second part: a refusal of the received word, and refusal 23 where it is accepted
-  pub says-word : (k x : ℕ) → wordVerdict (H .n) w (length (h .word)) (length (h .levels)) ≡ refused k x → refused k x ≡ lentVerdict H w h
-  unfolding lentVerdict
-  says-word k x e = rw e
+  -- the second part: refusal 7 where the opening's levels are not as many as the code's bits
+  pub says-opened : (length o ≡ H .n → ⊥) → refused 7 0 ≡ lentVerdict H w o h
+  unfolding lentVerdict notOpened
+  says-opened ne = rw (ne-eqb (length o) (H .n) ne)
 
-  pub says-beyond : (v : Verdict) → wordVerdict (H .n) w (length (h .word)) (length (h .levels)) ≡ accepted
-      → v ≡ refuseWhen 23 (beyond H (h .rec) h) accepted → v ≡ lentVerdict H w h
-  unfolding lentVerdict
-  says-beyond v e q = rw e q
+  -- where they are, a refusal of the received word, and refusal 23 where that is accepted
+  module _ (l : length o ≡ H .n) where
+    pub says-word : (k x : ℕ) → wordVerdict (H .n) w (length (h .word)) (length (h .levels)) ≡ refused k x → refused k x ≡ lentVerdict H w o h
+    unfolding lentVerdict notOpened
+    says-word k x e = rw (eq-eqb (length o) (H .n) l, e)
+
+    pub says-beyond : (v : Verdict) → wordVerdict (H .n) w (length (h .word)) (length (h .levels)) ≡ accepted
+        → v ≡ refuseWhen 23 (beyond H (h .rec) h) accepted → v ≡ lentVerdict H w o h
+    unfolding lentVerdict notOpened
+    says-beyond v e q = rw (eq-eqb (length o) (H .n) l, e) q
 
 -- ---- what opening asks
 

@@ -1,6 +1,7 @@
 -- Opening and a step are accepted exactly where what they ask holds (specs/Paper/PlainCalls.antt), both ways.
 --   usable-is                      == a record that passes refusals 20 and 21 is usable
 --   accepted-step, step-accepted   == a step is accepted exactly where what it asks holds
+--   opened-free                    == of the levels lent as those of the opening a step asks the number alone
 --   finite-first                   == where every sample is finite, the search for one that is not comes to the end
 --   accepted-open, open-accepted   == an opening is accepted exactly where what it asks holds
 --   far-found                      == a level beyond the largest is found
@@ -33,8 +34,8 @@ use Rattle.quantiser_settings.proofs.Ranges.{fits-reads, reads-fits, all-finite
 use Rattle.iterative_core.specs.Paper.Iterative.{samplesVerdict, iterativeVerdict}
 use Rattle.iterative_core.proofs.Loans.{verdict-lent}
 use Rattle.session_record.specs.Paper.Record.{Record, working, decoded, failed}
-use Rattle.session_asking.specs.Paper.Asked.{Held, unusable, ended, otherSizes, beyond, openVerdict, stepVerdict}
-use Rattle.session_asking.specs.Paper.PlainCalls.{Openable, Usable, Steppable}
+use Rattle.session_asking.specs.Paper.Asked.{Held, unusable, ended, otherSizes, notOpened, beyond, openVerdict, stepVerdict}
+use Rattle.session_asking.specs.Paper.PlainCalls.{Openable, Usable, Steppable, OpenedFree}
 use Rattle.session_asking.specs.Parts.{far, knownVerdict}
 
 -- ---- a step
@@ -72,16 +73,17 @@ is-usable r u = (
   rw (u .works),
 )
 
-module _ (H : Matrix) (w : List ℕ) (h : Held) where
+module _ (H : Matrix) (w : List ℕ) (o : List ℤ) (h : Held) where
   -- a step is accepted exactly where what it asks holds
-  pub accepted-step : stepVerdict H w h ≡ accepted → Steppable H w h
-  unfolding stepVerdict otherSizes beyond
+  pub accepted-step : stepVerdict H w o h ≡ accepted → Steppable H w o h
+  unfolding stepVerdict otherSizes notOpened beyond
   accepted-step e =
       let p20 = passed _ 20 0 _ e in
       let p21 = passed _ 21 0 _ (p20 .1) in
       let p5 = passed-on _ _ (p21 .1) in
       let p22 = passed _ 22 0 _ (p5 .1) in
-      let p9 = passed-on _ _ (p22 .1) in
+      let p7 = passed _ 7 0 _ (p22 .1) in
+      let p9 = passed-on _ _ (p7 .1) in
       let fit = word-fits (H .n) w (length (h .word)) (length (h .levels)) (p9 .0) in
       let p23 = passed _ 23 0 _ (p9 .1) in
       let sizes = not-false _ (p22 .0) in
@@ -94,6 +96,7 @@ module _ (H : Matrix) (w : List ℕ) (h : Held) where
         same-m = eqb-true (H .m) (h .rec .m) (and-left _ _ sizes₁);
         same-rho = eqb-true (H .rho) (h .rec .rho) (and-left _ _ sizes₂);
         same-gamma = eqb-true (H .gamma) (h .rec .gamma) (and-right (eqb (H .rho) (h .rec .rho)) _ sizes₂);
+        opened = eqb-true (length o) (H .n) (not-false _ (p7 .0));
         received = fit .0;
         bytes = fit .1;
         room = fit .2;
@@ -103,8 +106,8 @@ module _ (H : Matrix) (w : List ℕ) (h : Held) where
             (any-clear (far (largest (h .rec .bits)) (h .levels)) (H .n) (or-right (spareSet (H .n) (h .word)) _ (p23 .0)) j l);
       }
 
-  pub step-accepted : Steppable H w h → stepVerdict H w h ≡ accepted
-  unfolding stepVerdict otherSizes beyond
+  pub step-accepted : Steppable H w o h → stepVerdict H w o h ≡ accepted
+  unfolding stepVerdict otherSizes notOpened beyond
   step-accepted s =
       let u : (unusable (h .rec) ≡ false) × (ended (h .rec) ≡ false) =
       is-usable (h .rec) (s .usable) in
@@ -116,11 +119,17 @@ module _ (H : Matrix) (w : List ℕ) (h : Held) where
         eq-eqb (H .m) (h .rec .m) (s .same-m),
         eq-eqb (H .rho) (h .rec .rho) (s .same-rho),
         eq-eqb (H .gamma) (h .rec .gamma) (s .same-gamma),
+        eq-eqb (length o) (H .n) (s .opened),
         fits-word (H .n) w (length (h .word)) (length (h .levels)) (s .received) (s .bytes) (s .room) (s .clear),
         s .word-clear,
         any-none (far (largest (h .rec .bits)) (h .levels)) (H .n)
             (λ j l. le-ltb (largest (h .rec .bits)) (natAbs (getD (h .levels) j (pos 0))) (s .within j l)),
       )
+
+-- of the levels lent as those of the opening a step asks the number alone
+pub opened-free : (H : Matrix) (w : List ℕ) (h : Held) → OpenedFree H w h
+unfolding stepVerdict notOpened
+opened-free H w h o o′ e = rw e
 
 -- ---- an opening
 

@@ -2,7 +2,7 @@
 --   outOfRange b limit k    == what refusal 20 asks of a working record
 --   far L R j               == the level at place j lies beyond ±L
 --   beyondIn n L ..         == refusal 23 of a word and levels
---   knownVerdict H r, lentVerdict H w h   == what a step asks of its record and its matrix, and of what is lent with them
+--   knownVerdict H r, lentVerdict H w o h   == what a step asks of its record and its matrix, and of what is lent with them
 -- Assumes nothing.
 use Prim.Native.Nat.{ℕ}
 use mathlib.Core.Bool.{Bool, not, _||_}
@@ -18,7 +18,7 @@ use Rattle.matrix.specs.Paper.Check.{checkOf}
 use Rattle.quantiser_levels.specs.Paper.Samples.{rangesFit}
 use Rattle.syndrome.specs.Paper.Failing.{wordVerdict}
 use Rattle.session_record.specs.Paper.Record.{Record}
-use Rattle.session_asking.specs.Paper.Asked.{Held, unusable, ended, otherSizes, beyond}
+use Rattle.session_asking.specs.Paper.Asked.{Held, unusable, ended, otherSizes, notOpened, beyond}
 
 -- "b or the round limit out of range or k not below the round limit"
 abbrev pub outOfRange : ℕ → ℕ → ℕ → Bool
@@ -39,6 +39,7 @@ knownVerdict H r =
     (andThen (checkOf H) (refuseWhen 22 (otherSizes H r) accepted))
 
 -- 7, 9, 23: and of what is lent with them
-unfoldable pub lentVerdict : Matrix → List ℕ → Held → Verdict
-lentVerdict H w h =
-    andThen (wordVerdict (H .n) w (length (h .word)) (length (h .levels))) (refuseWhen 23 (beyond H (h .rec) h) accepted)
+unfoldable pub lentVerdict : Matrix → List ℕ → List ℤ → Held → Verdict
+lentVerdict H w o h =
+    refuseWhen 7 (notOpened (H .n) o)
+    (andThen (wordVerdict (H .n) w (length (h .word)) (length (h .levels))) (refuseWhen 23 (beyond H (h .rec) h) accepted))

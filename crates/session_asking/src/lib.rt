@@ -131,20 +131,24 @@ fn ask_known(session: Session, shape: Shape, list: &[u16]) -> Checked
     and_then(and_then(unusable, ended), and_then(matrix, sizes))
 }
 
-// What a step asks of what is lent with them: 7, 9, 23.
+// What a step asks of what is lent with them: 7, 9, 23. Of the opening's levels it asks how many there are, and nothing else.
 fn ask_lent(
     session: Session,
     shape: Shape,
     list: &[u16],
     received: &[u8],
+    opened: &[Cell],
     word: &[u8],
     levels: &[Cell],
 ) -> Checked
     requires { ⌜ Accepted (matrixOf shape (now list)) × Usable (recordOf session) ⌝ }
-    ensures { λ r. ⌜ verdictOf r ≡ lentVerdict (matrixOf shape (now (list .entry))) (now (received .entry)) (heldOf session (now (word .entry)) (now (levels .entry))) ⌝ }
+    ensures { λ r. ⌜ verdictOf r ≡ lentVerdict (matrixOf shape (now (list .entry))) (now (received .entry)) (now (opened .entry)) (heldOf session (now (word .entry)) (now (levels .entry))) ⌝ }
 {
     let n = shape.n as usize;
     let middle = largest_of(session.bits);
+    if opened.len() != n {
+        return Checked::Refused(Refusal::Buffer);
+    }
     let asked = syndrome::ask_word(n, received, word.len(), levels.len());
     match asked {
         Checked::Accepted => refused_when(is_beyond(n, middle, word, levels), Refusal::Beyond),
@@ -158,14 +162,15 @@ pub fn ask_step(
     shape: Shape,
     list: &[u16],
     received: &[u8],
+    opened: &[Cell],
     word: &[u8],
     levels: &[Cell],
 ) -> Checked
-    ensures { λ r. ⌜ verdictOf r ≡ stepVerdict (matrixOf shape (now (list .entry))) (now (received .entry)) (heldOf session (now (word .entry)) (now (levels .entry))) ⌝ }
+    ensures { λ r. ⌜ verdictOf r ≡ stepVerdict (matrixOf shape (now (list .entry))) (now (received .entry)) (now (opened .entry)) (heldOf session (now (word .entry)) (now (levels .entry))) ⌝ }
 {
     let known = ask_known(session, shape, list);
     match known {
-        Checked::Accepted => ask_lent(session, shape, list, received, word, levels),
+        Checked::Accepted => ask_lent(session, shape, list, received, opened, word, levels),
         Checked::Refused(f) => Checked::Refused(f),
     }
 }

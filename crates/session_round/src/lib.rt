@@ -1,6 +1,6 @@
 // One step of a session, by value: the record in and out.
-// Rests on `session`, `session_asking`, `session_record`, `iterative_core`, `iterative_levels`, `packed_word`, `packed_distance`, `majority_votes`, `syndrome` and `matrix_degrees`.
-// Document 01: "Rounds one at a time"; document 02: card 2.
+// Rests on `session`, `session_asking`, `session_record`, `iterative_core`, `iterative_levels`, `iterative_changed`, `packed_word`, `majority_votes`, `syndrome` and `matrix_degrees`.
+// Document 01: "Rounds one at a time"; document 02: cards 2 and 6.
 use answers::Checked;
 use iterative_levels::Kept;
 use matrix_check::Shape;
@@ -62,20 +62,20 @@ fn round_on(shape: Shape, list: &[u16], middle: Kept, word: &mut [u8], levels: &
     syndrome::failing_count(shape, list, &bits)
 }
 
-// A step that no refusal applies to: one round, and what is counted on the word that it leaves.
+// A step that no refusal applies to: one round, and what is counted on the word that it leaves. The opening's levels are read alone.
 fn step_accepted(
     session: Session,
     shape: Shape,
     list: &[u16],
     received: &[u8],
+    opened: &[Cell],
     word: &mut [u8],
     levels: &mut [Cell],
 ) -> Turn
-    requires { ⌜ Steppable (matrixOf shape (now list)) (now received) (heldOf session (now word) (now levels)) ⌝ }
-    ensures { λ r. ⌜ Leaves (steppedLeft (matrixOf shape (now (list .entry))) (now (received .entry)) (heldOf session (now (word .entry)) (now (levels .entry)))) (r .answer) (r .session) (now (word .exit)) (now (levels .exit)) ⌝ }
+    requires { ⌜ Steppable (matrixOf shape (now list)) (now received) (now opened) (heldOf session (now word) (now levels)) ⌝ }
+    ensures { λ r. ⌜ Leaves (steppedLeft (matrixOf shape (now (list .entry))) (now (received .entry)) (now (opened .entry)) (heldOf session (now (word .entry)) (now (levels .entry)))) (r .answer) (r .session) (now (word .exit)) (now (levels .exit)) ⌝ }
 {
     let n = shape.n as usize;
-    let need = (n + 7) / 8;
     let course = Course {
         bits: session.bits,
         limit: session.limit,
@@ -83,7 +83,7 @@ fn step_accepted(
     let k = session.k;
     let middle = largest_of(course.bits);
     let failing = round_on(shape, list, middle, word, levels);
-    let changed = packed_distance::differing(&word[..need], received);
+    let changed = iterative_changed::changed_since(received, opened, word, n);
     session_record::after_round(shape, course, k + 1, failing, changed)
 }
 
@@ -93,14 +93,15 @@ pub fn step_value(
     shape: Shape,
     list: &[u16],
     received: &[u8],
+    opened: &[Cell],
     word: &mut [u8],
     levels: &mut [Cell],
 ) -> Turn
-    ensures { λ r. ⌜ Leaves (stepOf (matrixOf shape (now (list .entry))) (now (received .entry)) (heldOf session (now (word .entry)) (now (levels .entry)))) (r .answer) (r .session) (now (word .exit)) (now (levels .exit)) ⌝ }
+    ensures { λ r. ⌜ Leaves (stepOf (matrixOf shape (now (list .entry))) (now (received .entry)) (now (opened .entry)) (heldOf session (now (word .entry)) (now (levels .entry)))) (r .answer) (r .session) (now (word .exit)) (now (levels .exit)) ⌝ }
 {
-    let asked = session_asking::ask_step(session, shape, list, received, word, levels);
+    let asked = session_asking::ask_step(session, shape, list, received, opened, word, levels);
     match asked {
-        Checked::Accepted => step_accepted(session, shape, list, received, word, levels),
+        Checked::Accepted => step_accepted(session, shape, list, received, opened, word, levels),
         Checked::Refused(f) => session_record::refuse(session, f),
     }
 }

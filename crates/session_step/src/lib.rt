@@ -1,5 +1,5 @@
 // One step of a session on the caller's own record, or on a copy of it.
-// Rests on `session_round` and `session_record`. Document 01: "Rounds one at a time".
+// Rests on `session_round` and `session_record`. Document 01: "Rounds one at a time"; document 02: card 6.
 use answers::Answer;
 use matrix_check::Shape;
 use quantiser_levels::Cell;
@@ -16,12 +16,13 @@ pub fn step(
     shape: Shape,
     list: &[u16],
     received: &[u8],
+    opened: &[Cell],
     word: &mut [u8],
     levels: &mut [Cell],
 ) -> Answer
-    ensures { λ r. ⌜ Leaves (stepOf (matrixOf shape (now (list .entry))) (now (received .entry)) (heldOf (now (session .entry)) (now (word .entry)) (now (levels .entry)))) r (now (session .exit)) (now (word .exit)) (now (levels .exit)) ⌝ }
+    ensures { λ r. ⌜ Leaves (stepOf (matrixOf shape (now (list .entry))) (now (received .entry)) (now (opened .entry)) (heldOf (now (session .entry)) (now (word .entry)) (now (levels .entry)))) r (now (session .exit)) (now (word .exit)) (now (levels .exit)) ⌝ }
 {
-    let stepped = session_round::step_value(*session, shape, list, received, word, levels);
+    let stepped = session_round::step_value(*session, shape, list, received, opened, word, levels);
     *session = stepped.session;
     stepped.answer
 }
@@ -32,13 +33,14 @@ pub fn step_copy(
     shape: Shape,
     list: &[u16],
     received: &[u8],
+    opened: &[Cell],
     word: &mut [u8],
     levels: &mut [Cell],
 ) -> Turn
-    ensures { λ r. ⌜ Leaves (stepOf (matrixOf shape (now (list .entry))) (now (received .entry)) (heldOf session (now (word .entry)) (now (levels .entry)))) (r .answer) (r .session) (now (word .exit)) (now (levels .exit)) ⌝ }
+    ensures { λ r. ⌜ Leaves (stepOf (matrixOf shape (now (list .entry))) (now (received .entry)) (now (opened .entry)) (heldOf session (now (word .entry)) (now (levels .entry)))) (r .answer) (r .session) (now (word .exit)) (now (levels .exit)) ⌝ }
 {
     let mut stepped = session;
-    let answer = step(&mut stepped, shape, list, received, word, levels);
+    let answer = step(&mut stepped, shape, list, received, opened, word, levels);
     Turn {
         session: stepped,
         answer,

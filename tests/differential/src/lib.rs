@@ -24,7 +24,7 @@ pub use indexed::Indexed;
 #[cfg(feature = "samples")]
 pub use samples::{bytes_for, quantise, quantise_exactly, Left};
 #[cfg(feature = "session")]
-pub use session::{Lent, WORKING};
+pub use session::{levels_by_chance, Lent, Opened, WORKING};
 #[cfg(feature = "sheet")]
 pub use sheets::{sheet_refusal, store_refusal, LentSheet, Sheeted};
 pub use subject::{refusal, Subject};

@@ -34,7 +34,7 @@ pub fn all_settings(random: &mut Random) -> Vec<Setting> {
 }
 
 /// A sample with this hard bit and a level of this magnitude.
-fn sample(setting: &Setting, bit: bool, magnitude: i32, random: &mut Random) -> f32 {
+pub fn sample(setting: &Setting, bit: bool, magnitude: i32, random: &mut Random) -> f32 {
     let largest = largest_level(setting.bits);
     let unit = match setting.kind {
         0 => setting.step,
@@ -78,8 +78,12 @@ pub type Strengths = (Strength, Strength);
 
 pub const WORST: Strengths = (Strength::Most, Strength::Least);
 
-pub const STRENGTHS: [Strengths; 4] = [
+/// No wrong sample has a level.
+pub const UNDECIDED: Strengths = (Strength::Least, Strength::Any);
+
+pub const STRENGTHS: [Strengths; 5] = [
     WORST,
+    UNDECIDED,
     (Strength::Most, Strength::Any),
     (Strength::Any, Strength::Least),
     (Strength::Any, Strength::Any),
@@ -152,6 +156,25 @@ impl Source {
     }
 }
 
+/// How many blocks with wrong places were met: with a level at none of those places, at some, at all.
+#[derive(Debug, Default)]
+pub struct Seen {
+    pub none: usize,
+    pub some: usize,
+    pub all: usize,
+}
+
+impl Seen {
+    pub fn count(&mut self, change: &Change, setting: &Setting, samples: &[f32]) {
+        match (change.decided(setting, samples), change.wrong.len()) {
+            (_, 0) => {}
+            (0, _) => self.none += 1,
+            (changed, wrong) if changed < wrong => self.some += 1,
+            _ => self.all += 1,
+        }
+    }
+}
+
 /// A codeword, and the places at which the hard bits differ from it.
 pub struct Change {
     gamma: usize,
@@ -177,6 +200,12 @@ impl Change {
         let right_one = |j: usize| self.sent[j] && !self.wrong.contains(&j);
         let places = 0..self.sent.len();
         places.map(|j| i32::from(tie && right_one(j))).collect()
+    }
+
+    /// How many of the wrong places have a level: what is reported as changed.
+    pub fn decided(&self, setting: &Setting, samples: &[f32]) -> usize {
+        let decided = |&&j: &&usize| level(setting, samples[j]) != 0;
+        self.wrong.iter().filter(decided).count()
     }
 
     /// Samples with levels of these magnitudes.

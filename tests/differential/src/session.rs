@@ -4,7 +4,7 @@ use crate::samples::described_samples;
 use crate::{Guarded, Subject};
 use ffi_face::{cells_of, record_of, Packed};
 use generator::Random;
-use reference::{Answer, Refusal, Session, Setting};
+use reference::{pack, Answer, Refusal, Session, Setting};
 
 /// The code of an answer whose record is working.
 pub const WORKING: u64 = 2;
@@ -46,6 +46,46 @@ impl Lent {
         }
         Packed::of_voting(answer)
     }
+}
+
+/// What a step is lent of the opening, beside its matrix: the received word, and the levels that it
+/// wrote.
+#[derive(Clone, Debug, PartialEq)]
+pub struct Opened {
+    pub received: Vec<u8>,
+    pub levels: Vec<i8>,
+}
+
+impl Opened {
+    /// What an opening has left: the first bytes of the word, and the first n levels.
+    pub fn of(subject: &Subject, lent: &Lent) -> Opened {
+        Opened {
+            received: lent.word[..subject.needed()].to_vec(),
+            levels: lent.levels[..usize::from(subject.matrix().n)].to_vec(),
+        }
+    }
+
+    /// A word, and any levels: what they hold is never refused.
+    pub fn by_chance(subject: &Subject, random: &mut Random) -> Opened {
+        let n = usize::from(subject.matrix().n);
+        Opened {
+            received: pack(&random.bits(n)),
+            levels: levels_by_chance(n, random),
+        }
+    }
+}
+
+/// Any numbers, none of them 0 in most cases; or few other than 0; or one number.
+pub fn levels_by_chance(count: usize, random: &mut Random) -> Vec<i8> {
+    let one = *random.pick(&[0, 1, -1, 127, -128]);
+    let kind = random.below(4);
+    let level = |_| match kind {
+        0 => one,
+        1 if !random.once_in(5) => 0,
+        2 if random.once_in(2) => 0,
+        _ => random.byte() as i8,
+    };
+    (0..count).map(level).collect()
 }
 
 /// The three buffers between guards.
@@ -129,30 +169,36 @@ impl Subject {
     }
 
     /// Compares a step; gives its answer. What is lent is then as the call left it.
-    pub fn step(&self, lent: &mut Lent, received: &[u8], random: &mut Random) -> Packed {
+    pub fn step(&self, lent: &mut Lent, opened: &Opened, random: &mut Random) -> Packed {
         let before = lent.clone();
-        let guarded_received = Guarded::new(received, random);
+        let guarded_received = Guarded::new(&opened.received, random);
+        let guarded_opened = Guarded::new(&opened.levels, random);
         let mut guards = Guards::new(lent, random);
         let expected = lent.expect(|record, word, levels| {
-            let verdict = self.verdict();
-            reference::step_checked(record, self.matrix(), verdict, received, word, levels)
+            reference::step_checked(
+                record,
+                self.matrix(),
+                self.verdict(),
+                &opened.received,
+                &opened.levels,
+                word,
+                levels,
+            )
         });
         let answer = ffi_face::step(
             guards.record.lent_mut(),
             self.lent(),
             guarded_received.lent(),
+            guarded_opened.lent(),
             guards.word.lent_mut(),
             guards.levels.lent_mut(),
         );
-        let call = || {
-            format!(
-                "step, {before:?}, received {received:02x?}, {}",
-                self.described()
-            )
-        };
+        let call = || format!("step, {before:?}, {opened:?}, {}", self.described());
         assert_eq!(answer, expected, "{}", call());
         guards.compare(lent, call);
+        let Opened { received, levels } = opened;
         assert!(guarded_received.holds(received), "received, {}", call());
+        assert!(guarded_opened.holds(levels), "opened, {}", call());
         assert!(self.list_stands(), "list, {}", call());
         answer
     }
@@ -165,12 +211,12 @@ impl Subject {
 
         let mut lent = Lent::by_chance(self, random);
         let mut answer = self.open(&mut lent, setting, samples, random);
-        let received = lent.word[..needed].to_vec();
+        let opened = Opened::of(self, &lent);
         let mut steps = 0;
         while answer.0 % (1 << 32) == WORKING {
             assert_eq!(lent.record[0], 1);
             assert!(steps < u64::from(setting.limit), "steps past the limit");
-            answer = self.step(&mut lent, &received, random);
+            answer = self.step(&mut lent, &opened, random);
             steps += 1;
             assert_eq!(u64::from(lent.record[3]), steps);
         }
@@ -181,7 +227,7 @@ impl Subject {
 
         // After the end every step is refused, and changes nothing.
         for _ in 0..2 {
-            let refused = self.step(&mut lent, &received, random);
+            let refused = self.step(&mut lent, &opened, random);
             assert_eq!(refused, Packed::new(21 * 65536, 0, 0, 0));
         }
         steps

@@ -40,7 +40,7 @@ fn p6_to_p8() {
     compare(&p6, &samples, 0, 0x00, levels, [1, 0, 0, 0, 1, 0, 0, 0]);
     let levels = [0x01, 0xFE, 0xFE, 0xFE, 0xFE, 0xFE, 0xFE];
     compare(&p7, &samples, 1, 0x80, levels, [0, 0, 3, 0, 0, 0, 0, 0]);
-    compare(&p6, &[0.1; 7], 0, 0x00, [0xFD; 7], [1, 0, 0, 0, 7, 0, 0, 0]);
+    compare(&p6, &[0.1; 7], 0, 0x00, [0xFD; 7], [1, 0, 0, 0, 0, 0, 0, 0]);
 }
 
 /// What the calls returned: decoded at once, decoded later, failed, and the most rounds.
@@ -245,27 +245,37 @@ fn every_level_after_rounds() {
     assert_eq!(unseen, [0x80]);
 }
 
-/// 341 rows of three ones, all of them odd: all fail, and after one round all 1,023 bits are 0.
+/// 341 rows of three ones, all of them odd: all fail, and after one round all 1,023 bits are 0. They
+/// are counted where they had a level: all of them, none, and two of each row.
 #[test]
 fn more_than_255_failing_or_changed() {
     let mut random = random(2008);
     let firmware = Firmware::new(&codes::single_row(3).copies(341).matrix, &mut random);
-    let samples = [0.1; 1023];
-    let block = Block::new(&settings::level_step(3, 0, 0.5), &samples);
-    let left = firmware.decode(&block, &mut random);
-    assert_eq!(left.returned, 1);
-    assert_eq!(left.report, [0, 0, 0x55, 0x01, 0, 0, 0, 0]);
-    assert_eq!(left.levels, [0; 1023]);
-    let block = Block::new(&settings::level_step(3, 1, 0.5), &samples);
-    let left = firmware.decode(&block, &mut random);
-    assert_eq!(left.returned, 0);
-    assert_eq!(left.report, [1, 0, 0, 0, 0xFF, 0x03, 0, 0]);
-    assert_eq!((left.word, left.levels), (vec![0; 128], vec![0xFF; 1023]));
+    for (row, level, changed) in [
+        ([0.5, 0.5, 0.5], [1, 1, 1], [0xFF, 0x03]),
+        ([0.1, 0.1, 0.1], [0, 0, 0], [0, 0]),
+        ([0.5, 0.1, 0.5], [1, 0, 1], [0xAA, 0x02]),
+    ] {
+        let samples = row.repeat(341);
+        let block = Block::new(&settings::level_step(3, 0, 0.5), &samples);
+        let left = firmware.decode(&block, &mut random);
+        assert_eq!(left.returned, 1);
+        assert_eq!(left.report, [0, 0, 0x55, 0x01, 0, 0, 0, 0]);
+        assert_eq!(left.signed(), level.repeat(341));
+        let block = Block::new(&settings::level_step(3, 1, 0.5), &samples);
+        let left = firmware.decode(&block, &mut random);
+        assert_eq!(left.returned, 0);
+        assert_eq!(left.report[..4], [1, 0, 0, 0]);
+        assert_eq!(left.report[4..6], changed);
+        assert_eq!(left.report[6..], [0, 0]);
+        assert_eq!(left.word, [0; 128]);
+        assert_eq!(left.signed(), level.map(|level| level - 1).repeat(341));
+    }
 }
 
 /// 511 rows of two bits, 1 and 0 with levels 1 and 0. Each bit's vote is the other bit: the levels
 /// change places in every round, and all rows go on failing. After an odd number of rounds every
-/// bit is another.
+/// bit is another, and each first one of a row is counted.
 #[test]
 fn all_rounds_with_every_count_above_255() {
     let mut random = random(2009);
@@ -274,7 +284,7 @@ fn all_rounds_with_every_count_above_255() {
     let block = Block::new(&settings::level_step(3, 255, 0.5), &samples);
     let left = firmware.decode(&block, &mut random);
     assert_eq!(left.returned, 1);
-    assert_eq!(left.report, [0xFF, 0, 0xFF, 0x01, 0xFE, 0x03, 0, 0]);
+    assert_eq!(left.report, [0xFF, 0, 0xFF, 0x01, 0xFF, 0x01, 0, 0]);
     assert_eq!(left.word, [vec![0x55; 127], vec![0x54]].concat());
     assert_eq!(left.levels, [0, 1].repeat(511));
     let block = Block::new(&settings::level_step(3, 254, 0.5), &samples);

@@ -1,8 +1,10 @@
 //! The header's promise: with its limits, at most gamma / 2 wrong samples, however strong, are
-//! undone and counted.
+//! undone, and those with a level counted.
 
 use differential::firmware::{Block, Firmware};
-use differential::rule::{enough, some_setting, with_limit, Change, Source, WORST};
+use differential::rule::{
+    enough, some_setting, with_limit, Change, Seen, Source, UNDECIDED, WORST,
+};
 use differential::{cases, random};
 use generator::codes::{self, Code};
 use generator::{patterns, settings, unlike, Random};
@@ -55,7 +57,8 @@ impl Tried {
         assert_eq!(left.returned, 0, "{}", call());
         assert_eq!(left.word[..sent.len()], sent, "{}", call());
         let [rounds, failing, changed] = left.counts();
-        assert_eq!((failing, changed), (0, wrong.len()), "{}", call());
+        let counted = change.decided(setting, samples);
+        assert_eq!((failing, changed), (0, counted), "{}", call());
         assert_eq!(left.report[6..8], [0, 0], "{}", call());
         assert!(rounds <= usize::from(setting.limit), "{}", call());
         rounds
@@ -84,12 +87,14 @@ fn some_codes() -> Vec<Code> {
 #[test]
 fn wrong_samples_of_every_number() {
     let mut random = random(2200);
+    let mut seen = Seen::default();
     let mut most = LIMITS.map(|_| 0);
     for code in some_codes() {
         let tried = Tried::new(code, &mut random);
         for setting in promised(&mut random) {
             for (change, samples) in tried.source.blocks(&setting, &mut random) {
                 let rounds = tried.keeps(&change, &setting, &samples, &mut random);
+                seen.count(&change, &setting, &samples);
                 let at = LIMITS.iter().position(|&(bits, _)| bits == setting.bits);
                 let most = &mut most[at.expect("a width of the promise")];
                 *most = rounds.max(*most);
@@ -97,6 +102,8 @@ fn wrong_samples_of_every_number() {
         }
     }
     assert_eq!(most, LIMITS.map(|(_, limit)| limit));
+    let Seen { none, some, all } = seen;
+    assert!(none > 100 && some > 20 && all > 100, "{seen:?}");
 }
 
 /// Every codeword and every set of wrong samples of small codes, the wrong ones as strong and the
@@ -121,10 +128,12 @@ fn worst_blocks_of_small_codes() {
     }
 }
 
-/// Large codes with few blocks, two of them with columns of unlike weight. Beside each stands t.
+/// Large codes with few blocks, some of them without a level at a wrong place; two codes have columns
+/// of unlike weight. Beside each stands t.
 #[test]
 fn large_codes() {
     let mut random = random(2202);
+    let mut seen = Seen::default();
     for (code, half) in [
         (codes::eg1023(), 16),
         (unlike::without_rows_of_column_0(&codes::eg1023(), 16), 8),
@@ -134,12 +143,21 @@ fn large_codes() {
         let tried = Tried::new(code, &mut random);
         assert_eq!(tried.source.half(), half, "{}", tried.source.code.name);
         for setting in promised(&mut random) {
+            let mut blocks = Vec::new();
             for _ in 0..cases(2) {
-                let (change, samples) = tried.source.some_block(&setting, &mut random);
+                blocks.push(tried.source.some_block(&setting, &mut random));
+            }
+            for change in tried.source.changes(half, &mut random) {
+                let samples = change.of(&setting, UNDECIDED, &mut random);
+                blocks.push((change, samples));
+            }
+            for (change, samples) in blocks {
                 tried.keeps(&change, &setting, &samples, &mut random);
+                seen.count(&change, &setting, &samples);
             }
         }
     }
+    assert!(seen.none > 50 && seen.all > 5, "{seen:?}");
 }
 
 /// Code A, zeros sent, sample 0 at the largest level and above: each round takes 3 off 127.
@@ -162,7 +180,8 @@ fn a_smaller_limit_may_fail() {
 }
 
 /// The exception: P10's code, E0 sent, sample 0 wrong, which is half of gamma. A right 1 of level 0
-/// is lost to a tie, and the word ends at 00; with level 1 it comes back.
+/// is lost to a tie, and the word ends at 00, where sample 0 alone is counted; with level 1 it comes
+/// back.
 #[test]
 fn a_right_one_of_level_zero() {
     let mut random = random(2204);
@@ -174,7 +193,7 @@ fn a_right_one_of_level_zero() {
     let block = Block::new(&setting, &[-1.5, 0.1, 0.5]);
     let left = tried.firmware.decode(&block, &mut random);
     assert_eq!((left.returned, &left.word[..]), (0, &[0x00][..]));
-    assert_eq!(left.report, [2, 0, 0, 0, 2, 0, 0, 0]);
+    assert_eq!(left.report, [2, 0, 0, 0, 1, 0, 0, 0]);
 
     assert_eq!(level(&setting, 0.25), 1);
     let rounds = tried.keeps(&change, &setting, &[-1.5, 0.25, 0.5], &mut random);

@@ -2,12 +2,14 @@
 //! gamma / 2 places come back to it within a known number of rounds, however strong the wrong
 //! samples and however weak the right ones. The reference's opinion is asked as well.
 
-use differential::rule::{all_settings, enough, some_setting, with_limit, Change, Source, WORST};
-use differential::{cases, random, Lent, Subject, WORKING};
+use differential::rule::{
+    all_settings, enough, some_setting, with_limit, Change, Seen, Source, WORST,
+};
+use differential::{cases, random, Lent, Opened, Subject, WORKING};
 use ffi_face::Packed;
 use generator::codes::{self, Code};
 use generator::{patterns, settings, unlike, Random};
-use reference::{largest_level, level, pack, Setting};
+use reference::{hard_bit, largest_level, level, pack, Setting};
 
 const FAILED: u64 = 1;
 
@@ -45,11 +47,15 @@ impl Tried {
             )
         };
         let rounds = rounds(answer);
-        let expected = Packed::new(0, rounds, 0, wrong.len());
+        let expected = Packed::new(0, rounds, 0, change.decided(setting, samples));
         assert_eq!(answer, expected, "{}", call());
         assert!(rounds <= change.bound(setting.bits), "{}", call());
         assert_eq!(rounds == 0, wrong.is_empty(), "{}", call());
         assert_eq!(word[..sent.len()], sent, "{}", call());
+        // Of all places, with a level or without, those that were wrong.
+        let hard: Vec<bool> = samples.iter().map(|&sample| hard_bit(sample)).collect();
+        let turned = ffi_face::changed(&word[..sent.len()], &pack(&hard));
+        assert_eq!(turned, Packed::new(0, 0, 0, wrong.len()), "{}", call());
         rounds
     }
 
@@ -91,10 +97,10 @@ impl Tried {
         let setting = with_limit(setting, change.bound(setting.bits));
         let mut lent = Lent::by_chance(subject, random);
         let mut answer = subject.open(&mut lent, &setting, samples, random);
-        let received = lent.word[..subject.needed()].to_vec();
+        let opened = Opened::of(subject, &lent);
         let mut steps = 0;
         while answer.place() == WORKING {
-            answer = subject.step(&mut lent, &received, random);
+            answer = subject.step(&mut lent, &opened, random);
             steps += 1;
         }
         assert_eq!(rounds(answer), steps);
@@ -210,10 +216,17 @@ fn small_and_three_more() -> Vec<Code> {
 }
 
 /// Blocks by chance.
-fn some_come_back(tried: &Tried, setting: &Setting, times: usize, random: &mut Random) {
+fn some_come_back(
+    tried: &Tried,
+    setting: &Setting,
+    times: usize,
+    seen: &mut Seen,
+    random: &mut Random,
+) {
     for _ in 0..times {
         let (change, samples) = tried.source.some_block(setting, random);
         tried.comes_back_in_time(&change, setting, &samples, random);
+        seen.count(&change, setting, &samples);
     }
 }
 
@@ -239,27 +252,31 @@ fn some_large() -> Vec<Code> {
 #[test]
 fn hostile_levels_on_codes() {
     let mut random = random(1501);
+    let mut seen = Seen::default();
     for code in codes::small() {
         let tried = Tried::new(code, &mut random);
         for setting in all_settings(&mut random) {
             for (change, samples) in tried.source.blocks(&setting, &mut random) {
                 tried.comes_back_in_time(&change, &setting, &samples, &mut random);
+                seen.count(&change, &setting, &samples);
             }
         }
     }
     for code in codes::medium() {
         let tried = Tried::new(code, &mut random);
         for setting in all_settings(&mut random) {
-            some_come_back(&tried, &setting, cases(2), &mut random);
+            some_come_back(&tried, &setting, cases(2), &mut seen, &mut random);
         }
     }
     for code in some_large() {
         let tried = Tried::new(code, &mut random);
         for bits in 2..=8 {
             let setting = some_setting(bits, random.below(2) as u16, &mut random);
-            some_come_back(&tried, &setting, cases(1), &mut random);
+            some_come_back(&tried, &setting, cases(1), &mut seen, &mut random);
         }
     }
+    let Seen { none, some, all } = seen;
+    assert!(none > 1000 && some > 50 && all > 1000, "{seen:?}");
 }
 
 /// How many of the worst blocks with so many wrong places take all the rounds of the bound. A
@@ -312,6 +329,7 @@ fn code_a_needs_43_rounds() {
 #[test]
 fn half_of_l_and_one_is_always_enough() {
     let mut random = random(1504);
+    let mut seen = Seen::default();
     let mut most = [0; 7];
     for code in small_and_three_more() {
         let tried = Tried::new(code, &mut random);
@@ -319,31 +337,36 @@ fn half_of_l_and_one_is_always_enough() {
             for (change, samples) in tried.source.blocks(&setting, &mut random) {
                 let limit = *random.pick(&[enough(setting.bits), 255]);
                 let rounds = tried.comes_back(&change, &setting, limit, &samples, &mut random);
+                seen.count(&change, &setting, &samples);
                 let most = &mut most[usize::from(setting.bits) - 2];
                 *most = rounds.max(*most);
             }
         }
     }
+    let Seen { none, some, all } = seen;
+    assert!(none > 1000 && some > 50 && all > 1000, "{seen:?}");
     assert_eq!([2, 3, 4, 5, 6, 7, 8].map(enough), [1, 2, 4, 8, 16, 32, 64]);
     assert_eq!([2, 3, 4, 5, 6, 7, 8].map(enough), most);
 }
 
 /// A block by chance, stepped and whole.
-fn steps_back(tried: &Tried, setting: &Setting, random: &mut Random) {
+fn steps_back(tried: &Tried, setting: &Setting, seen: &mut Seen, random: &mut Random) {
     let (change, samples) = tried.source.some_block(setting, random);
     let steps = tried.steps_back_in_time(&change, setting, &samples, random);
     let rounds = tried.comes_back_in_time(&change, setting, &samples, random);
     assert_eq!(steps, rounds);
+    seen.count(&change, setting, &samples);
 }
 
 #[test]
 fn stepping_obeys_the_rule() {
     let mut random = random(1505);
+    let mut seen = Seen::default();
     for code in small_and_three_more() {
         let tried = Tried::new(code, &mut random);
         for setting in all_settings(&mut random) {
             for _ in 0..cases(2) {
-                steps_back(&tried, &setting, &mut random);
+                steps_back(&tried, &setting, &mut seen, &mut random);
             }
         }
     }
@@ -351,13 +374,15 @@ fn stepping_obeys_the_rule() {
     for bits in 2..=4 {
         for kind in [0, 1] {
             let setting = some_setting(bits, kind, &mut random);
-            steps_back(&tried, &setting, &mut random);
+            steps_back(&tried, &setting, &mut seen, &mut random);
         }
     }
+    assert!(seen.none > 20 && seen.all > 100, "{seen:?}");
 }
 
 /// P10's code, E0 sent, bit 0 wrong, which is half of gamma: a right 1 of level 0 is lost to a
-/// tie, and the word ends at 00. With level 1 it comes back.
+/// tie, and the word ends at 00; of the two bits that end different one had a level. With level 1 it
+/// comes back.
 #[test]
 fn level_zero_matters() {
     let mut random = random(1506);
@@ -370,7 +395,7 @@ fn level_zero_matters() {
     let left = tried
         .subject
         .block(&setting, &[-1.5, 0.1, 0.5], &mut random);
-    assert_eq!(left.answer, Packed::new(0, 2, 0, 2));
+    assert_eq!(left.answer, Packed::new(0, 2, 0, 1));
     assert_eq!(left.word[0], 0x00);
 
     assert_eq!(level(&setting, 0.25), 1);

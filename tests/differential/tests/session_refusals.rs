@@ -1,8 +1,8 @@
-//! Sessions refused: the record's fields one by one, buffers, spare places, levels out of range,
-//! and the order in which a step asks.
+//! Sessions refused: the record's fields one by one, buffers, the number of the opening's levels, spare
+//! places, levels out of range, and the order in which a step asks.
 
 use differential::causes::{matrix_with, subset, PLACES};
-use differential::{cases, random, Lent, Subject};
+use differential::{cases, levels_by_chance, random, Lent, Opened, Subject};
 use ffi_face::Packed;
 use generator::codes::{self, Code};
 use generator::{damage, settings, Codewords, Random};
@@ -12,20 +12,20 @@ fn refused(number: u64, place: u64) -> Packed {
     Packed::new(number * 65536 + place, 0, 0, 0)
 }
 
-/// A session in its midst: the record is working, word and levels fit, and so does the received
-/// word.
-fn in_its_midst(subject: &Subject, bits: u16, random: &mut Random) -> (Lent, Vec<u8>) {
+/// A session in its midst: the record is working, word and levels fit, and so does what is lent of the
+/// opening.
+fn in_its_midst(subject: &Subject, bits: u16, random: &mut Random) -> (Lent, Opened) {
     let h = subject.matrix();
     let n = usize::from(h.n);
     let mut lent = Lent::by_chance(subject, random);
     lent.record = vec![1, bits, 30, 7, h.n, h.m, h.rho, h.gamma];
-    let (word, received) = (pack(&random.bits(n)), pack(&random.bits(n)));
+    let word = pack(&random.bits(n));
     lent.word[..word.len()].copy_from_slice(&word);
     let largest = largest_level(bits);
     for level in &mut lent.levels[..n] {
         *level = (random.below(2 * largest as usize + 1) as i32 - largest) as i8;
     }
-    (lent, received)
+    (lent, Opened::by_chance(subject, random))
 }
 
 /// Codes with every number of spare places.
@@ -36,8 +36,8 @@ fn some_codes() -> Vec<Code> {
 }
 
 /// The answer to a step of which nothing is kept.
-fn answer(subject: &Subject, lent: &Lent, received: &[u8], random: &mut Random) -> Packed {
-    subject.step(&mut lent.clone(), received, random)
+fn answer(subject: &Subject, lent: &Lent, opened: &Opened, random: &mut Random) -> Packed {
+    subject.step(&mut lent.clone(), opened, random)
 }
 
 /// Each field of the record set to other values, alone.
@@ -47,8 +47,8 @@ fn every_field_of_the_record() {
     for code in some_codes() {
         let subject = Subject::new(&code.matrix, &mut random);
         for bits in [2, 5, 8] {
-            let (lent, received) = in_its_midst(&subject, bits, &mut random);
-            assert_eq!(answer(&subject, &lent, &received, &mut random).refusal(), 0);
+            let (lent, opened) = in_its_midst(&subject, bits, &mut random);
+            assert_eq!(answer(&subject, &lent, &opened, &mut random).refusal(), 0);
             for field in 0..8 {
                 let is = lent.record[field];
                 let mut values = vec![
@@ -59,7 +59,7 @@ fn every_field_of_the_record() {
                 for value in values {
                     let mut lent = lent.clone();
                     lent.record[field] = value;
-                    let answer = answer(&subject, &lent, &received, &mut random);
+                    let answer = answer(&subject, &lent, &opened, &mut random);
                     let expected = match field {
                         0 => match value {
                             1 => 0,
@@ -89,14 +89,14 @@ fn records_that_are_not_working() {
     let subject = Subject::new(&codes::code_b().matrix, &mut random);
     for state in [0, 2, 3, 4, 7, 256, 258, 65_535] {
         for _ in 0..cases(50) {
-            let (mut lent, received) = in_its_midst(&subject, 4, &mut random);
+            let (mut lent, opened) = in_its_midst(&subject, 4, &mut random);
             lent.record[0] = state;
             if random.once_in(2) {
                 let field = 1 + random.below(7);
                 lent.record[field] = random.number() as u16;
             }
             let number = if state == 2 || state == 3 { 21 } else { 20 };
-            let answer = answer(&subject, &lent, &received, &mut random);
+            let answer = answer(&subject, &lent, &opened, &mut random);
             assert_eq!(answer, refused(number, 0));
         }
     }
@@ -111,10 +111,10 @@ fn records_of_another_length() {
         let n = usize::from(code.n);
         for length in [0, 1, 7, 9, 16, 264] {
             for state in 0..5 {
-                let (mut lent, received) = in_its_midst(&subject, 4, &mut random);
+                let (mut lent, opened) = in_its_midst(&subject, 4, &mut random);
                 lent.record[0] = state;
                 lent.record.resize(length, 3);
-                let answer = answer(&subject, &lent, &received, &mut random);
+                let answer = answer(&subject, &lent, &opened, &mut random);
                 assert_eq!(answer, refused(7, 0));
                 let good = settings::some(&mut random);
                 let setting = match random.below(2) {
@@ -134,22 +134,71 @@ fn buffers_of_a_step() {
     for code in some_codes() {
         let subject = Subject::new(&code.matrix, &mut random);
         let (n, needed) = (usize::from(code.matrix.n), subject.needed());
-        let (good, received) = in_its_midst(&subject, 6, &mut random);
+        let (good, good_opened) = in_its_midst(&subject, 6, &mut random);
         let mut good = good;
         good.word.resize(needed + 9, 0xFF);
         good.levels.resize(n + 9, -128);
         for for_word in [0, needed - 1, needed, needed + 1, needed + 9] {
             for for_levels in [0, n - 1, n, n + 1, n + 9] {
                 for length in [0, needed - 1, needed, needed + 1] {
-                    let mut lent = good.clone();
-                    lent.word.truncate(for_word);
-                    lent.levels.truncate(for_levels);
-                    let mut received = received.clone();
-                    received.resize(length, 0);
-                    let answer = answer(&subject, &lent, &received, &mut random);
-                    let fits = for_word >= needed && for_levels >= n && length == needed;
-                    assert_eq!(answer == refused(7, 0), !fits, "{}", code.name);
+                    for count in [0, n - 1, n, n + 1] {
+                        let mut lent = good.clone();
+                        lent.word.truncate(for_word);
+                        lent.levels.truncate(for_levels);
+                        let mut opened = good_opened.clone();
+                        opened.received.resize(length, 0);
+                        opened.levels.resize(count, 0);
+                        let answer = answer(&subject, &lent, &opened, &mut random);
+                        let written = for_word >= needed && for_levels >= n;
+                        let fits = written && length == needed && count == n;
+                        assert_eq!(answer == refused(7, 0), !fits, "{}", code.name);
+                    }
                 }
+            }
+        }
+    }
+}
+
+/// The opening's levels: exactly n of them. One fewer, one more, none, and as many as 16 bits take for
+/// n; of any numbers.
+#[test]
+fn the_number_of_the_openings_levels() {
+    let mut random = random(1410);
+    for code in [some_codes(), codes::large()].concat() {
+        let subject = Subject::new(&code.matrix, &mut random);
+        let n = usize::from(code.matrix.n);
+        let (lent, good) = in_its_midst(&subject, 5, &mut random);
+        assert_eq!(answer(&subject, &lent, &good, &mut random).refusal(), 0);
+        let others = [0, 1, n - 1, n + 1, n + 8, 2 * n, 65_536, 65_536 + n];
+        for count in others.into_iter().filter(|&count| count != n) {
+            let mut opened = good.clone();
+            opened.levels = levels_by_chance(count, &mut random);
+            let answer = answer(&subject, &lent, &opened, &mut random);
+            assert_eq!(answer, refused(7, 0), "{}, {count} levels", code.name);
+        }
+    }
+}
+
+/// What the opening's levels hold is never asked: levels that would be beyond ±L, at every place and at
+/// all of them.
+#[test]
+fn the_numbers_of_the_openings_levels() {
+    let mut random = random(1411);
+    for code in some_codes() {
+        let subject = Subject::new(&code.matrix, &mut random);
+        let n = usize::from(code.matrix.n);
+        for bits in 2..=8 {
+            let largest = largest_level(bits) as i8;
+            let (lent, good) = in_its_midst(&subject, bits, &mut random);
+            for level in [-128, -127, -largest, -1, 0, 1, largest, 127] {
+                for place in [0, 1, n / 2, n - 1, random.below(n)] {
+                    let mut opened = good.clone();
+                    opened.levels[place] = level;
+                    assert_eq!(answer(&subject, &lent, &opened, &mut random).refusal(), 0);
+                }
+                let mut opened = good.clone();
+                opened.levels.fill(level);
+                assert_eq!(answer(&subject, &lent, &opened, &mut random).refusal(), 0);
             }
         }
     }
@@ -163,23 +212,23 @@ fn spare_places() {
         let last = subject.needed() - 1;
         let spare = 8 * subject.needed() - usize::from(code.matrix.n);
         for place in 0..spare {
-            let (good, received) = in_its_midst(&subject, 3, &mut random);
-            let mut set = received.clone();
-            set[last] |= 1 << place;
+            let (good, opened) = in_its_midst(&subject, 3, &mut random);
+            let mut set = opened.clone();
+            set.received[last] |= 1 << place;
             let mut lent = good.clone();
             assert_eq!(answer(&subject, &lent, &set, &mut random), refused(9, 0));
             lent.word[last] |= 1 << place;
             assert_eq!(
-                answer(&subject, &lent, &received, &mut random),
+                answer(&subject, &lent, &opened, &mut random),
                 refused(23, 0)
             );
             assert_eq!(answer(&subject, &lent, &set, &mut random), refused(9, 0));
         }
         // The lowest place that isn't spare.
-        let (mut lent, mut received) = in_its_midst(&subject, 3, &mut random);
+        let (mut lent, mut opened) = in_its_midst(&subject, 3, &mut random);
         lent.word[last] |= 1 << spare;
-        received[last] |= 1 << spare;
-        assert_eq!(answer(&subject, &lent, &received, &mut random).refusal(), 0);
+        opened.received[last] |= 1 << spare;
+        assert_eq!(answer(&subject, &lent, &opened, &mut random).refusal(), 0);
     }
 }
 
@@ -193,7 +242,7 @@ fn levels_out_of_range() {
         let n = usize::from(code.matrix.n);
         for bits in 2..=8 {
             let largest = largest_level(bits);
-            let (mut good, received) = in_its_midst(&subject, bits, &mut random);
+            let (mut good, opened) = in_its_midst(&subject, bits, &mut random);
             good.levels.resize(n + 3, 0);
             let ends = [largest + 1, -largest - 1, 127, -127, -128];
             let beyond = ends.iter().filter(|end| end.abs() > largest);
@@ -202,7 +251,7 @@ fn levels_out_of_range() {
                 for place in places {
                     let mut lent = good.clone();
                     lent.levels[place] = level as i8;
-                    let answer = answer(&subject, &lent, &received, &mut random);
+                    let answer = answer(&subject, &lent, &opened, &mut random);
                     let expected = if place < n { 23 } else { 0 };
                     assert_eq!(answer.refusal(), expected, "{level} at {place}");
                 }
@@ -210,7 +259,7 @@ fn levels_out_of_range() {
             for level in [largest, -largest] {
                 let mut lent = good.clone();
                 lent.levels.fill(level as i8);
-                assert_eq!(answer(&subject, &lent, &received, &mut random).refusal(), 0);
+                assert_eq!(answer(&subject, &lent, &opened, &mut random).refusal(), 0);
             }
         }
     }
@@ -223,16 +272,16 @@ fn other_matrices() {
     let codes = codes::small();
     let mut seen = [0; 24];
     for code in &codes {
-        let opened = Subject::new(&code.matrix, &mut random);
+        let subject = Subject::new(&code.matrix, &mut random);
         for _ in 0..cases(30) {
-            let (lent, received) = in_its_midst(&opened, 4, &mut random);
+            let (lent, opened) = in_its_midst(&subject, 4, &mut random);
             let mut other = random.pick(&codes).matrix.clone();
             if random.once_in(2) {
                 other = code.matrix.clone();
                 damage::change(&mut other, &mut random);
             }
             let other = Subject::new(&other, &mut random);
-            let answer = answer(&other, &lent, &received, &mut random);
+            let answer = answer(&other, &lent, &opened, &mut random);
             seen[answer.refusal() as usize] += 1;
         }
     }
@@ -245,15 +294,16 @@ fn other_matrices() {
 #[test]
 fn the_order_in_which_a_step_asks() {
     let mut random = random(1407);
-    for number in 0..3 << 9 {
-        let state = number >> 9;
-        let present: [bool; 9] = subset(number);
-        let [sizes, length, entry, weight, overlap, other_sizes, buffer, spare, current] = present;
+    for number in 0..3 << 10 {
+        let state = number >> 10;
+        let present: [bool; 10] = subset(number);
+        let [sizes, length, entry, weight, overlap, other_sizes, ..] = present;
+        let [.., buffer, count, spare, current] = present;
         let h = matrix_with([sizes, length, entry, weight, overlap]);
         let subject = Subject::new(&h, &mut random);
         let n = usize::from(h.n);
         for _ in 0..cases(2) {
-            let (mut lent, mut received) = in_its_midst(&subject, 4, &mut random);
+            let (mut lent, mut opened) = in_its_midst(&subject, 4, &mut random);
             match state {
                 0 => {}
                 1 => match random.below(5) {
@@ -269,7 +319,7 @@ fn the_order_in_which_a_step_asks() {
                 lent.record[4 + random.below(4)] += 1;
             }
             if spare {
-                received[2] |= *random.pick(&[1, 2, 4, 8, 15]);
+                opened.received[2] |= *random.pick(&[1, 2, 4, 8, 15]);
             }
             if current {
                 match random.below(2) {
@@ -281,12 +331,16 @@ fn the_order_in_which_a_step_asks() {
                 match random.below(4) {
                     0 => lent.word.truncate(2),
                     1 => lent.levels.truncate(n - 1),
-                    2 => received.truncate(2),
-                    _ => received.push(0),
+                    2 => opened.received.truncate(2),
+                    _ => opened.received.push(0),
                 }
             }
-            let answer = answer(&subject, &lent, &received, &mut random);
-            let asked = [1, 2, 3, 4, 5, 22, 7, 9, 23];
+            if count {
+                let count = *random.pick(&[0, n - 1, n + 1, 65_536 + n]);
+                opened.levels = levels_by_chance(count, &mut random);
+            }
+            let answer = answer(&subject, &lent, &opened, &mut random);
+            let asked = [1, 2, 3, 4, 5, 22, 7, 7, 9, 23];
             let expected = match (state, present.iter().position(|&cause| cause)) {
                 (1, _) => refused(20, 0),
                 (2, _) => refused(21, 0),
@@ -370,9 +424,9 @@ fn calls_by_chance() {
             .collect();
         let mut lent = Lent::by_chance(&subject, &mut random);
         subject.open(&mut lent, &setting, &samples, &mut random);
-        let received = lent.word[..subject.needed()].to_vec();
+        let mut opened = Opened::of(&subject, &lent);
         for _ in 0..random.below(6) {
-            match random.below(12) {
+            match random.below(15) {
                 0 => {
                     let field = random.below(8);
                     lent.record[field] = random.below(12) as u16;
@@ -385,15 +439,25 @@ fn calls_by_chance() {
                     let at = random.below(lent.word.len());
                     lent.word[at] = random.byte();
                 }
+                3 => {
+                    let at = random.below(opened.levels.len());
+                    opened.levels[at] = random.byte() as i8;
+                }
+                4 if random.once_in(4) => {
+                    opened
+                        .levels
+                        .truncate(1 + random.below(opened.levels.len()));
+                }
+                5 if random.once_in(4) => opened.levels.push(random.byte() as i8),
                 _ => {}
             }
             let mut other = code.matrix.clone();
             if random.once_in(8) {
                 damage::change(&mut other, &mut random);
                 let other = Subject::new(&other, &mut random);
-                other.step(&mut lent, &received, &mut random);
+                other.step(&mut lent, &opened, &mut random);
             } else {
-                subject.step(&mut lent, &received, &mut random);
+                subject.step(&mut lent, &opened, &mut random);
             }
         }
     }

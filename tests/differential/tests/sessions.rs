@@ -1,7 +1,7 @@
 //! Sessions: after every call the record, word, levels and answer; stepped runs against whole
 //! calls; words, levels and matrices that change between steps.
 
-use differential::{cases, random, Lent, Subject, WORKING};
+use differential::{cases, levels_by_chance, random, Lent, Opened, Subject, WORKING};
 use ffi_face::Packed;
 use generator::codes::{self, Code};
 use generator::{noise, settings, Codewords, Random};
@@ -31,7 +31,8 @@ fn p6_to_p8() {
     assert_eq!(lent.record, [1, 3, 5, 0, 7, 7, 3, 3]);
     assert_eq!(lent.word[0], 0x80);
     assert_eq!(lent.levels[..7], [1, -2, -2, -2, -2, -2, -2]);
-    let stepped = a.step(&mut lent, &[0x80], &mut random);
+    let opened = Opened::of(&a, &lent);
+    let stepped = a.step(&mut lent, &opened, &mut random);
     assert_eq!(stepped, Packed::new(0, 1, 0, 1));
     assert_eq!(lent.record, [2, 3, 5, 1, 7, 7, 3, 3]);
     assert_eq!(lent.word[0], 0x00);
@@ -44,9 +45,11 @@ fn p6_to_p8() {
 
     let opened = a.open(&mut lent, &p6, &[0.1; 7], &mut random);
     assert_eq!(opened, Packed::new(WORKING, 0, 7, 0));
+    assert_eq!(lent.word[0], 0xFE);
     assert_eq!(lent.levels[..7], [0; 7]);
-    let stepped = a.step(&mut lent, &[0xFE], &mut random);
-    assert_eq!(stepped, Packed::new(0, 1, 0, 7));
+    let opened = Opened::of(&a, &lent);
+    let stepped = a.step(&mut lent, &opened, &mut random);
+    assert_eq!(stepped, Packed::new(0, 1, 0, 0));
     assert_eq!(lent.levels[..7], [-3; 7]);
 }
 
@@ -154,20 +157,21 @@ fn words_and_levels_by_chance() {
                 let end = *random.pick(&[largest, -largest, 0, 1, -1]);
                 lent.levels[..n].fill(end as i8);
             }
-            let received = some_word(&subject, &mut random);
-            let answer = subject.step(&mut lent, &received, &mut random);
+            let opened = Opened::by_chance(&subject, &mut random);
+            let answer = subject.step(&mut lent, &opened, &mut random);
             assert_eq!(answer.refusal(), 0);
             // As long as the record works, go on with what the step left.
             for _ in 0..3 {
                 if lent.record[0] == 1 {
-                    subject.step(&mut lent, &received, &mut random);
+                    subject.step(&mut lent, &opened, &mut random);
                 }
             }
         }
     }
 }
 
-/// Between steps: bits of the word and levels disturbed, another received word, k set back.
+/// Between steps: bits of the word and levels disturbed, another received word, other levels of the
+/// opening, k set back.
 #[test]
 fn disturbed_between_steps() {
     let mut random = random(1306);
@@ -181,17 +185,19 @@ fn disturbed_between_steps() {
             let samples = block(&codewords, &mut random);
             let mut lent = Lent::by_chance(&subject, &mut random);
             subject.open(&mut lent, &setting, &samples, &mut random);
-            let mut received = lent.word[..subject.needed()].to_vec();
+            let mut opened = Opened::of(&subject, &lent);
             for _ in 0..8 {
                 let j = random.below(n);
-                match random.below(5) {
+                match random.below(7) {
                     0 => lent.word[j / 8] ^= 128 >> (j % 8),
                     1 => lent.levels[j] = *random.pick(&[largest, -largest, 0, 1]),
-                    2 => received[j / 8] ^= 128 >> (j % 8),
-                    3 => lent.record[3] = lent.record[3].saturating_sub(1),
+                    2 => opened.received[j / 8] ^= 128 >> (j % 8),
+                    3 => opened.levels[j] = random.byte() as i8,
+                    4 => opened.levels = levels_by_chance(n, &mut random),
+                    5 => lent.record[3] = lent.record[3].saturating_sub(1),
                     _ => lent.record[0] = 1,
                 }
-                subject.step(&mut lent, &received, &mut random);
+                subject.step(&mut lent, &opened, &mut random);
             }
         }
     }
@@ -228,9 +234,9 @@ fn matrices_swapped_between_steps() {
             let samples = block(&codewords, &mut random);
             let mut lent = Lent::by_chance(&subjects[0], &mut random);
             subjects[0].open(&mut lent, &setting, &samples, &mut random);
-            let received = lent.word[..subjects[0].needed()].to_vec();
+            let opened = Opened::of(&subjects[0], &lent);
             for at in 1..=usize::from(setting.limit) {
-                subjects[at % 2].step(&mut lent, &received, &mut random);
+                subjects[at % 2].step(&mut lent, &opened, &mut random);
             }
         }
     }

@@ -1,7 +1,7 @@
 //! Columns of unlike weight in every call: the bit's own checks count. Most tests of this folder
 //! have such codes among theirs; here are those that only they can pass or fail.
 
-use differential::{cases, random, Indexed, Lent, Subject, WORKING};
+use differential::{cases, random, Indexed, Lent, Opened, Subject, WORKING};
 use ffi_face::Packed;
 use generator::codes::{self, Code};
 use generator::{damage, noise, patterns, settings, unlike, Codewords, Random};
@@ -205,10 +205,10 @@ fn a_session_keeps_the_lent_gamma() {
     let opened = subject.open(&mut lent, &setting, &samples, &mut random);
     assert_eq!(opened.0 % (1 << 32), WORKING);
     assert_eq!(lent.record[7], 3);
-    let received = lent.word[..subject.needed()].to_vec();
+    let opened = Opened::of(&subject, &lent);
     let before = lent.clone();
     let step = |subject: &Subject, lent: &mut Lent, random: &mut Random| {
-        subject.step(lent, &received, random)
+        subject.step(lent, &opened, random)
     };
     assert_eq!(step(&other, &mut lent, &mut random), refused(4, n as u64));
     for gamma in [0, 1, 2, 4, 5, 32, 65535] {

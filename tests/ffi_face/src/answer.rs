@@ -65,6 +65,11 @@ impl Packed {
         self.0 % 65536
     }
 
+    /// The changed bits of an answer that is no refusal.
+    pub fn changed(self) -> usize {
+        (self.0 >> 52) as usize
+    }
+
     /// The bytes of a stored sheet.
     pub fn bytes(self) -> usize {
         (self.0 >> 32) as usize

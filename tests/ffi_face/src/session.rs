@@ -37,6 +37,8 @@ extern "C" {
         list_len: usize,
         received: *const u8,
         received_len: usize,
+        opened: *const i8,
+        opened_len: usize,
         word: *mut u8,
         word_len: usize,
         levels: *mut i8,
@@ -78,11 +80,12 @@ pub fn open(
     })
 }
 
-/// One step.
+/// One step. `opened` are the levels that the opening wrote.
 pub fn step(
     record: &mut [u16],
     h: LentMatrix,
     received: &[u8],
+    opened: &[i8],
     word: &mut [u8],
     levels: &mut [i8],
 ) -> Packed {
@@ -99,6 +102,8 @@ pub fn step(
             h.list.len(),
             received.as_ptr(),
             received.len(),
+            opened.as_ptr(),
+            opened.len(),
             word.as_mut_ptr(),
             word.len(),
             levels.as_mut_ptr(),

@@ -37,7 +37,7 @@ fn worked() {
     let p8 = Case::new(&a, &settings::level_step(3, 5, 0.5), &[0.1; 7]);
     assert_eq!(p6().line(), "0 x00 xfefdfdfdfdfdfd x0100000001000000 kept");
     assert_eq!(p7.line(), "1 x80 x01fefefefefefe x0000030000000000 kept");
-    assert_eq!(p8.line(), "0 x00 xfdfdfdfdfdfdfd x0100000007000000 kept");
+    assert_eq!(p8.line(), "0 x00 xfdfdfdfdfdfdfd x0100000000000000 kept");
     compare("worked", &[p6(), p7, p8]);
 }
 

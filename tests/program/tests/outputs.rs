@@ -28,6 +28,22 @@ fn p6() {
     assert_same("P6", &program.printed(&input), expected);
 }
 
+/// P8, of which no sample has a level, and P6 with a first sample without one: bits are turned, and not
+/// counted.
+#[test]
+fn undecided_samples() {
+    let Some(program) = Program::find() else {
+        return;
+    };
+    let p8 = vec![0.1; 7];
+    let first = vec![0.1, -1.0, -1.0, -1.0, -1.0, -1.0, -1.0];
+    let setting = settings::level_step(3, 5, 0.5);
+    let input = stream::input(&codes::code_a().matrix, &setting, &[p8, first]);
+    let lines = "0 decoded 1 0 0 00\n1 decoded 1 0 0 00\n";
+    let expected = format!("block end rounds failing changed word\n{lines}");
+    assert_same("P8", &program.printed(&input), expected.as_bytes());
+}
+
 /// P9's matrix: its two rows share two columns.
 #[test]
 fn rows_that_overlap() {

@@ -1,4 +1,4 @@
-use crate::answer::positions_that_differ;
+use crate::answer::decided_positions_that_differ;
 use crate::quantiser::{check_setting, hard_bit, largest_level, level, samples_are_finite};
 use crate::{byte_count, check, failing_checks, pack, Answer, Matrix, Outcome, Refusal, Setting};
 
@@ -49,13 +49,20 @@ impl Voting {
         self.z = self.r.iter().map(|&r| r > 0).collect();
     }
 
-    /// "rounds; failing (checks that fail in the word handed back [..]); changed".
-    pub(crate) fn answer(&self, h: &Matrix, outcome: Outcome, received: &[bool]) -> Answer {
+    /// "rounds; failing (checks that fail in the word handed back [..]); changed", of the hard bits
+    /// and the levels at opening.
+    pub(crate) fn answer(
+        &self,
+        h: &Matrix,
+        outcome: Outcome,
+        received: &[bool],
+        opened: &[i32],
+    ) -> Answer {
         Answer {
             outcome,
             rounds: self.k,
             failing: failing_checks(h, &self.z),
-            changed: positions_that_differ(&self.z, received),
+            changed: decided_positions_that_differ(opened, &self.z, received),
         }
     }
 
@@ -129,7 +136,7 @@ pub fn iterative_accepted(
     samples_are_finite(samples)?;
 
     let mut voting = Voting::opened(setting, samples);
-    let received = voting.z.clone();
+    let (received, opened) = (voting.z.clone(), voting.r.clone());
     let mut outcome = voting.outcome(h, setting.limit);
     if outcome == Outcome::Working {
         let checks = checks_of_all(h);
@@ -140,5 +147,5 @@ pub fn iterative_accepted(
         }
     }
     voting.write(word, levels);
-    Ok(voting.answer(h, outcome, &received))
+    Ok(voting.answer(h, outcome, &received, &opened))
 }

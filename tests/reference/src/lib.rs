@@ -1,4 +1,4 @@
-//! The literal decoder of document 01 and of cards 1 to 5 of document 02, a second opinion for the
+//! The literal decoder of document 01 and of cards 1 to 6 of document 02, a second opinion for the
 //! tests.
 //!
 //! Each function is one passage of a document, done the slow way it is said: all rows are

@@ -89,7 +89,7 @@ pub fn open_checked(
         rho: h.rho,
         gamma: h.gamma,
     };
-    Ok(voting.answer(h, outcome, &voting.z))
+    Ok(voting.answer(h, outcome, &voting.z, &voting.r))
 }
 
 /// Refusals 20 and 21.
@@ -118,6 +118,16 @@ fn sizes_are_the_records(record: &Session, h: &Matrix) -> Result<(), Refusal> {
     Ok(())
 }
 
+/// "7: [..] or a written buffer shorter than needed." Card 6, of the levels the opening wrote: "a
+/// wrong length of those is 7, and what they hold is never refused."
+fn levels_fit(h: &Matrix, opened: &[i8], levels: &[i8]) -> Result<(), Refusal> {
+    let n = usize::from(h.n);
+    if opened.len() != n || levels.len() < n {
+        return Err(Refusal::plain(7));
+    }
+    Ok(())
+}
+
 /// "23: a spare place set in the current word, or a level beyond ±L among the first n."
 fn current_fits(record: &Session, word: &[u8], levels: &[i8]) -> Result<(), Refusal> {
     let largest = largest_level(record.bits);
@@ -130,17 +140,19 @@ fn current_fits(record: &Session, word: &[u8], levels: &[i8]) -> Result<(), Refu
     Ok(())
 }
 
-/// "A step does 4 to 6 and then 2 and 3, on the matrix, word and levels lent with it."
+/// "A step does 4 to 6 and then 2 and 3, on the matrix, word and levels lent with it." Card 6: "a
+/// step is also lent the levels the opening wrote".
 ///
 /// "A step asks in this order: 20, 21, 1 to 5, 22, 7, 9, 23."
 pub fn step(
     record: &mut Session,
     h: &Matrix,
     received: &[u8],
+    opened: &[i8],
     word: &mut [u8],
     levels: &mut [i8],
 ) -> Result<Answer, Refusal> {
-    step_checked(record, h, check(h), received, word, levels)
+    step_checked(record, h, check(h), received, opened, word, levels)
 }
 
 /// The same with the verdict of `check` at hand.
@@ -149,6 +161,7 @@ pub fn step_checked(
     h: &Matrix,
     verdict: Result<(), Refusal>,
     received: &[u8],
+    opened: &[i8],
     word: &mut [u8],
     levels: &mut [i8],
 ) -> Result<Answer, Refusal> {
@@ -156,17 +169,17 @@ pub fn step_checked(
     verdict?;
     sizes_are_the_records(record, h)?;
     lengths(h, received, Some(word))?;
-    if levels.len() < usize::from(h.n) {
-        return Err(Refusal::plain(7));
-    }
+    levels_fit(h, opened, levels)?;
     let received = received_bits(h, received)?;
     current_fits(record, word, levels)?;
 
     let n = usize::from(h.n);
+    let numbers = |levels: &[i8]| levels.iter().map(|&r| i32::from(r)).collect();
+    let opened: Vec<i32> = numbers(opened);
     let mut voting = Voting {
         k: usize::from(record.k),
         z: unpack(h.n, &word[..byte_count(h.n)]),
-        r: levels[..n].iter().map(|&r| i32::from(r)).collect(),
+        r: numbers(&levels[..n]),
     };
     voting.round(h, &checks_of_all(h), record.bits);
     let outcome = voting.outcome(h, record.limit);
@@ -174,5 +187,5 @@ pub fn step_checked(
     // "The step brings the caller's own record up to date".
     record.state = state(outcome);
     record.k = voting.k as u16;
-    Ok(voting.answer(h, outcome, &received))
+    Ok(voting.answer(h, outcome, &received, &opened))
 }

@@ -101,14 +101,15 @@ fn p7() {
     assert_eq!(decoded(&p7), (1, 0x80, levels, report));
 }
 
-/// "P6's setting, seven samples 0.1: 00, decoded, rounds 1, changed 7, levels all −3."
+/// "P6's setting, seven samples 0.1: 00, decoded, rounds 1, changed 7, levels all −3." Card 6: "P8
+/// then gives changed 0".
 #[test]
 fn p8() {
     let p8 = Call {
         samples: &P8_SAMPLES,
         ..P6
     };
-    let report = [1, 0, 0, 0, 7, 0, 0, 0];
+    let report = [1, 0, 0, 0, 0, 0, 0, 0];
     assert_eq!(decoded(&p8), (0, 0x00, [0xFD; 7], report));
 }
 

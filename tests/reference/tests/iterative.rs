@@ -64,7 +64,8 @@ fn p7_no_round_allowed() {
 
 #[test]
 fn p8_the_first_hard_bit_is_the_samples() {
-    let expected = answer(Outcome::Decoded, 1, 0, 7);
+    // No sample has a level: card 6, "P8 then gives changed 0".
+    let expected = answer(Outcome::Decoded, 1, 0, 0);
     assert_eq!(voted(&P6, &[0.1; 7]), (expected, 0x00, vec![-3; 7]));
 }
 
@@ -133,6 +134,7 @@ fn p6_in_single_rounds() {
     assert_eq!(opened, Ok(answer(Outcome::Working, 0, 3, 0)));
     assert_eq!(word, [0x80, 0xA5]);
     assert_eq!(levels, [1, -2, -2, -2, -2, -2, -2, 99]);
+    let at_opening = [1, -2, -2, -2, -2, -2, -2];
     let working = Session {
         state: State::Working,
         bits: 3,
@@ -145,7 +147,11 @@ fn p6_in_single_rounds() {
     };
     assert_eq!(record, working);
 
-    let stepped = step(&mut record, &a, &[0x80], &mut word, &mut levels);
+    let mut step = |record: &mut Session| {
+        let stepped = step(record, &a, &[0x80], &at_opening, &mut word, &mut levels);
+        (stepped, word, levels)
+    };
+    let (stepped, word, levels) = step(&mut record);
     assert_eq!(stepped, Ok(answer(Outcome::Decoded, 1, 0, 1)));
     assert_eq!(word, [0x00, 0xA5]);
     assert_eq!(levels, [-2, -3, -3, -3, -3, -3, -3, 99]);
@@ -156,8 +162,8 @@ fn p6_in_single_rounds() {
     };
     assert_eq!(record, decoded);
 
-    let after_the_end = step(&mut record, &a, &[0x80], &mut word, &mut levels);
-    assert_eq!(after_the_end, Err(Refusal::plain(21)));
+    let after_the_end = step(&mut record);
+    assert_eq!(after_the_end, (Err(Refusal::plain(21)), word, levels));
     assert_eq!(record, decoded);
 }
 
@@ -191,9 +197,21 @@ fn the_order_in_which_a_step_asks() {
         rho: 3,
         gamma: 3,
     };
-    let refused = |record: Session, h: &Matrix, received: &[u8], word: &[u8], levels: &[i8]| {
+    let refused_with = |record: Session,
+                        h: &Matrix,
+                        received: &[u8],
+                        opened: &[i8],
+                        word: &[u8],
+                        levels: &[i8]| {
         let (mut kept, mut word_kept, mut levels_kept) = (record, word.to_vec(), levels.to_vec());
-        let refusal = step(&mut kept, h, received, &mut word_kept, &mut levels_kept);
+        let refusal = step(
+            &mut kept,
+            h,
+            received,
+            opened,
+            &mut word_kept,
+            &mut levels_kept,
+        );
         if let Err(refusal) = refusal {
             assert_eq!(
                 (kept, &word_kept[..], &levels_kept[..]),
@@ -203,6 +221,10 @@ fn the_order_in_which_a_step_asks() {
             return refusal.number;
         }
         0
+    };
+    let o = [1, -2, -2, -2, -2, -2, -2];
+    let refused = |record: Session, h: &Matrix, received: &[u8], word: &[u8], levels: &[i8]| {
+        refused_with(record, h, received, &o, word, levels)
     };
     let a = code_a();
     let bad = Matrix {
@@ -245,6 +267,29 @@ fn the_order_in_which_a_step_asks() {
     assert_eq!(refused(working, &a, &[0x81], &[], &r), 7);
     assert_eq!(refused(working, &a, &[0x81], &[0x81], &r[..6]), 7);
     assert_eq!(refused(working, &a, &[0x81], &[0x81], &r), 9);
+    // The opening's levels: their length with the other lengths, their numbers not at all.
+    for wrong in [&[][..], &o[..6], &[0; 8], &[0; 9]] {
+        let refused = |record: Session, h: &Matrix, received: &[u8]| {
+            refused_with(record, h, received, wrong, &[0x81], &r)
+        };
+        let empty = Session::EMPTY;
+        let ended = Session {
+            state: State::Failed,
+            ..working
+        };
+        assert_eq!(refused(empty, &a, &z), 20);
+        assert_eq!(refused(ended, &a, &z), 21);
+        assert_eq!(refused(working, &bad, &z), 1);
+        assert_eq!(refused(other_sizes, &a, &z), 22);
+        assert_eq!(refused(working, &a, &z), 7);
+        assert_eq!(refused(working, &a, &[0x81]), 7);
+        assert_eq!(refused(working, &a, &[]), 7);
+    }
+    for numbers in [[0; 7], [-128; 7], [127; 7], [4; 7], [-4; 7]] {
+        assert_eq!(refused_with(working, &a, &z, &numbers, &z, &r), 0);
+        assert_eq!(refused_with(working, &a, &[0x81], &numbers, &z, &r), 9);
+        assert_eq!(refused_with(working, &a, &z, &numbers, &[0x81], &r), 23);
+    }
     assert_eq!(refused(working, &a, &z, &[0x81], &r), 23);
     assert_eq!(
         refused(working, &a, &z, &z, &[1, -2, -2, -2, -2, -2, -4]),

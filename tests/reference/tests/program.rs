@@ -59,7 +59,7 @@ fn refused_blocks_count() {
         block(&P6_SAMPLES),
     ]
     .concat();
-    let expected = "0 refused 8 3\n1 decoded 1 0 7 00\n2 refused 8 3\n3 decoded 1 0 1 00\n";
+    let expected = "0 refused 8 3\n1 decoded 1 0 0 00\n2 refused 8 3\n3 decoded 1 0 1 00\n";
     assert_eq!(lines(&input), expected);
 }
 

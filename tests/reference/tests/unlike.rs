@@ -181,12 +181,28 @@ fn the_same_in_single_rounds() {
     let opened = open(&mut record, &u, &SETTING, &SAMPLES, &mut word, &mut levels);
     assert_eq!(opened, Ok(answer(Outcome::Working, 0, 4, 0)));
     assert_eq!((record.n, record.gamma), (9, 2));
-    assert_eq!(levels, [1, -2, -2, -2, -2, -2, -2, -2, -2]);
+    let at_opening = [1, -2, -2, -2, -2, -2, -2, -2, -2];
+    assert_eq!(levels, at_opening);
+    let received = [0x80, 0];
     // The record's γ is the lent one.
     let mut other = Session { gamma: 1, ..record };
-    let stepped = step(&mut other, &u, &[0x80, 0], &mut word, &mut levels);
+    let stepped = step(
+        &mut other,
+        &u,
+        &received,
+        &at_opening,
+        &mut word,
+        &mut levels,
+    );
     assert_eq!(stepped, Err(Refusal::plain(22)));
-    let stepped = step(&mut record, &u, &[0x80, 0], &mut word, &mut levels);
+    let stepped = step(
+        &mut record,
+        &u,
+        &received,
+        &at_opening,
+        &mut word,
+        &mut levels,
+    );
     assert_eq!(stepped, Ok(answer(Outcome::Decoded, 1, 0, 1)));
     assert_eq!((word, levels), ([0, 0], LEVELS));
 }

@@ -42,9 +42,13 @@ line, block, outcome, rounds, failing, changed, wrong_bits, within_half, reason,
 --words W         received words, one a line: hexadecimal, or zeros and ones
 --strict          status 1 also where a block is decoded beyond the half
 
+changed counts the bits that ended different and whose sample has a level: samples of level 0 are
+undecided, and no errors (one-step voting, which has no levels, counts all). wrong_bits counts them
+all, with a level or without, and decides within_half.
+
 Status 0: every block decoded; 1: some are open (failed or refused); 2: a fault, told on standard
-error. A block decoded beyond the half (within_half is no) is not open, but to be looked at: more
-than t = gamma / 2 bits were changed, and nothing proves that its word is the one sent.
+error. A block decoded beyond the half (within_half is no) is not open, but to be looked at:
+wrong_bits is more than t = gamma / 2, and nothing proves that its word is the one sent.
 ";
 
 pub const KNOWN: Known = Known {

@@ -20,7 +20,8 @@ pub const USAGE: &str = "\
 mlgd map R.csv [--out MAP.svg] [--columns N]
 
 Draws a results table of mlgd decode as an SVG picture, for a browser: a cell for each block,
-coloured by its outcome and by how many bits were wrong, with a legend. - is standard input for R.
+coloured by its outcome and by its column changed (bits with a level that ended different), with a
+legend. Within or beyond the half is by wrong_bits, which counts all. - is standard input for R.
 
 --out MAP.svg     the picture; standard output without it
 --columns N       N cells in a row (1 to 1000); without it the tool chooses
@@ -45,13 +46,15 @@ const LEGEND_WIDTH: f64 = 290.0;
 const LEGEND_LINE: f64 = 20.0;
 
 /// Under the legend.
-const NOTES: [&str; 6] = [
-    "The half is γ / 2 bits. Within it no other",
-    "codeword is so near: it is the block sent,",
-    "unless more bits than that arrived wrong.",
-    "Beyond it: to be looked at. The word is a",
-    "codeword, often the right one, but nothing",
-    "proves it.",
+const NOTES: [&str; 8] = [
+    "Changed are bits with a level: samples of",
+    "level 0 are undecided, and not counted.",
+    "The half is γ / 2 bits, with a level or",
+    "without. Within it no other codeword is so",
+    "near: it is the block sent, unless more bits",
+    "than that arrived wrong. Beyond it: to be",
+    "looked at. The word is a codeword, often",
+    "the right one, but nothing proves it.",
 ];
 
 pub fn run(words: &[String]) -> Result<Status, Fault> {
@@ -214,9 +217,19 @@ fn draw_single_cells(picture: &mut Picture, blocks: &Blocks, kinds: &Kinds, layo
 
 /// `block 17: decoded, 2 bits changed`.
 fn tooltip(block: &Block, reason: &str) -> String {
+    let changed = |count| {
+        let changed = bits_changed(count);
+        match block.undecided {
+            0 => changed,
+            more => format!(
+                "{changed}, {} turned",
+                counted(more as usize, "undecided bit")
+            ),
+        }
+    };
     let end = match block.end {
-        End::Within(count) => format!("decoded, {}", bits_changed(count)),
-        End::Beyond(count) => format!("decoded, {}, beyond the half", bits_changed(count)),
+        End::Within(count) => format!("decoded, {}", changed(count)),
+        End::Beyond(count) => format!("decoded, {}, beyond the half", changed(count)),
         End::Failed(1) => "failed, 1 check fails".into(),
         End::Failed(failing) => format!("failed, {} fail", counted(failing as usize, "check")),
         End::Refused if reason.is_empty() => "refused".into(),

@@ -60,10 +60,9 @@ impl Promise {
 
     /// What is to be said of a codeword that lies beyond the half, whatever the limit.
     fn beyond(&self, wrong_bits: usize) -> String {
-        let bits = counted(wrong_bits, "bit");
         let are = if self.t == 1 { "is" } else { "are" };
         format!(
-            "changed {bits}, more than the {} that {are} proved to be undone: \
+            "wrong_bits is {wrong_bits}, more than the {} that {are} proved to be undone: \
              nothing proves this codeword to be the one sent, compare it with another reception \
              or send the block again",
             self.t
@@ -120,7 +119,7 @@ impl Promise {
 #[derive(Clone, Debug, Default)]
 pub struct Ended {
     pub word: Vec<u8>,
-    /// In how many places the word differs from the hard bits.
+    /// In how many places the word differs from the hard bits, with a level or without.
     pub wrong_bits: usize,
     /// Whether a sample above 0 has level 0.
     pub weak: bool,
@@ -269,12 +268,13 @@ mod tests {
         Promise::iterative(&matrix, &setting)
     }
 
+    /// Of a block whose wrong bits are all undecided: `changed` decides nothing.
     fn reason(promise: Promise, decoded: bool, wrong_bits: usize, weak: bool) -> String {
         let answer = Answer {
             decoded,
             rounds: 30,
             failing: if decoded { 0 } else { 4 },
-            changed: wrong_bits,
+            changed: 0,
         };
         let ended = Ended {
             word: Vec::new(),
@@ -292,7 +292,7 @@ mod tests {
         for limit in [0, 30, 63, 64, 255] {
             for weak in [false, true] {
                 let expected = format!(
-                    "changed 6 bits, more than the 2 that are proved to be undone: {ending}"
+                    "wrong_bits is 6, more than the 2 that are proved to be undone: {ending}"
                 );
                 assert_eq!(reason(promise(5, limit), true, 6, weak), expected);
                 assert_eq!(reason(promise(4, limit), true, 6, weak), expected);
@@ -300,10 +300,10 @@ mod tests {
             }
         }
         let expected =
-            format!("changed 2 bits, more than the 1 that is proved to be undone: {ending}");
+            format!("wrong_bits is 2, more than the 1 that is proved to be undone: {ending}");
         assert_eq!(reason(promise(3, 64), true, 2, false), expected);
         let expected =
-            format!("changed 1 bit, more than the 0 that are proved to be undone: {ending}");
+            format!("wrong_bits is 1, more than the 0 that are proved to be undone: {ending}");
         assert_eq!(reason(promise(1, 64), true, 1, false), expected);
     }
 

@@ -41,8 +41,10 @@ impl Outcome {
 pub struct Counts {
     pub rounds: usize,
     pub failing: usize,
+    /// In how many places whose sample has a level the word differs from the hard bits, as the program
+    /// counted them; of one-step voting in how many of all.
     pub changed: usize,
-    /// In how many places the word differs from the samples' hard bits, counted by this tool.
+    /// In how many of all places it does, counted by this tool.
     pub wrong_bits: usize,
     pub word: Vec<u8>,
 }

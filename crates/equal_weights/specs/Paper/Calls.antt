@@ -4,7 +4,7 @@
 --   iterativeAskedBy v H S xs ..   == what iterative voting asks
 --   IterativeBy v H S xs ..     == iterative voting: answer, word and levels
 --   openBy v H S xs h           == opening a session: answer, record, word and levels
---   stepBy v H w h              == a step of it
+--   stepBy v H w o h            == a step of it
 --   IndexBy v H ..              == building the index: answer and index
 --   OneStepIndexedBy v H x ..   == one-step voting by matrix and index
 --   IterativeIndexedBy v H x .. == iterative voting by matrix and index
@@ -23,9 +23,9 @@ use Rattle.matrix.specs.Paper.Code.{Matrix, failing}
 use Rattle.matrix_index.specs.Paper.Index.{indexOf, indexSize, ownVerdict}
 use Rattle.syndrome.specs.Paper.Failing.{wordVerdict}
 use Rattle.majority_logic.specs.Paper.OneStep.{oneStepReport, oneStepWord}
-use Rattle.quantiser_levels.specs.Paper.Samples.{Setting, hardBit}
-use Rattle.iterative_core.specs.Paper.Iterative.{endFrom, reportAt, samplesVerdict, iterativeWord, iterativeLevels}
-use Rattle.session_asking.specs.Paper.Asked.{Held, unusable, ended, otherSizes, beyond}
+use Rattle.quantiser_levels.specs.Paper.Samples.{Setting}
+use Rattle.iterative_core.specs.Paper.Iterative.{startOf, endFrom, reportAt, samplesVerdict, iterativeWord, iterativeLevels}
+use Rattle.session_asking.specs.Paper.Asked.{Held, unusable, ended, otherSizes, notOpened, beyond}
 use Rattle.session.specs.Paper.Steps.{Left, leave, openedLeft, steppedLeft}
 use Rattle.program_input.specs.Paper.Opening.{Opening, opening, settingVerdict}
 
@@ -44,7 +44,7 @@ iterativeAskedBy v H S xs bytes levels = andThen v (samplesVerdict (H .n) S xs b
 
 -- iterative voting
 pub record IterativeBy (v : Verdict) (H : Matrix) (S : Setting) (xs : List Float) (said : Said) (w w′ : List ℕ) (ls ls′ : List ℤ) : Type 0 where
-  pub answer : said ≡ after (iterativeAskedBy v H S xs (length w) (length ls)) (reportAt H (hardBit xs) (endFrom H S xs))
+  pub answer : said ≡ after (iterativeAskedBy v H S xs (length w) (length ls)) (reportAt H (startOf S xs) (endFrom H S xs))
   pub word : w′ ≡ written (iterativeAskedBy v H S xs (length w) (length ls)) (iterativeWord H S xs) w
   pub levels : ls′ ≡ written (iterativeAskedBy v H S xs (length w) (length ls)) (iterativeLevels H S xs) ls
 
@@ -53,18 +53,19 @@ abbrev pub openBy : Verdict → Matrix → Setting → List Float → Held → L
 openBy v H S xs h = leave (iterativeAskedBy v H S xs (length (h .word)) (length (h .levels))) (openedLeft H S xs h) h
 
 -- what a step asks
-abbrev pub stepAskedBy : Verdict → Matrix → List ℕ → Held → Verdict
-stepAskedBy v H w h =
+abbrev pub stepAskedBy : Verdict → Matrix → List ℕ → List ℤ → Held → Verdict
+stepAskedBy v H w o h =
     refuseWhen 20 (unusable (h .rec))
     (refuseWhen 21 (ended (h .rec))
     (andThen v
     (refuseWhen 22 (otherSizes H (h .rec))
+    (refuseWhen 7 (notOpened (H .n) o)
     (andThen (wordVerdict (H .n) w (length (h .word)) (length (h .levels)))
-    (refuseWhen 23 (beyond H (h .rec) h) accepted)))))
+    (refuseWhen 23 (beyond H (h .rec) h) accepted))))))
 
 -- a step
-abbrev pub stepBy : Verdict → Matrix → List ℕ → Held → Left
-stepBy v H w h = leave (stepAskedBy v H w h) (steppedLeft H w h) h
+abbrev pub stepBy : Verdict → Matrix → List ℕ → List ℤ → Held → Left
+stepBy v H w o h = leave (stepAskedBy v H w o h) (steppedLeft H w o h) h
 
 -- building the index
 pub record IndexBy (v : Verdict) (H : Matrix) (old new : List ℕ) (s : Verdict) : Type 0 where
@@ -82,7 +83,7 @@ indexedAskedBy v H x S xs bytes levels = andThen v (andThen (ownVerdict H x) (sa
 
 -- iterative voting by matrix and index
 pub record IterativeIndexedBy (v : Verdict) (H : Matrix) (x : List ℕ) (S : Setting) (xs : List Float) (s : Said) (w w′ : List ℕ) (l l′ : List ℤ) : Type 0 where
-  pub answer : s ≡ after (indexedAskedBy v H x S xs (length w) (length l)) (reportAt H (hardBit xs) (endFrom H S xs))
+  pub answer : s ≡ after (indexedAskedBy v H x S xs (length w) (length l)) (reportAt H (startOf S xs) (endFrom H S xs))
   pub word : w′ ≡ written (indexedAskedBy v H x S xs (length w) (length l)) (iterativeWord H S xs) w
   pub levels : l′ ≡ written (indexedAskedBy v H x S xs (length w) (length l)) (iterativeLevels H S xs) l
 

@@ -34,7 +34,7 @@ pub record AsBefore (H : Matrix) : Type 0 where
   pub iterative : (S : Setting) (xs : List Float) (said : Said) (w w′ : List ℕ) (ls ls′ : List ℤ) → IterativeAnswered H S xs said w w′ ls ls′
       → IterativeBy (checkEqual H) H S xs said w w′ ls ls′
   pub opens : (S : Setting) (xs : List Float) (h : Held) → openOf H S xs h ≡ openBy (checkEqual H) H S xs h
-  pub step : (w : List ℕ) (h : Held) → stepOf H w h ≡ stepBy (checkEqual H) H w h
+  pub step : (w : List ℕ) (o : List ℤ) (h : Held) → stepOf H w o h ≡ stepBy (checkEqual H) H w o h
   pub index : (old new : List ℕ) (v : Verdict) → IndexAnswered H old new v → IndexBy (checkEqual H) H old new v
   pub one-step-indexed : (x w old new : List ℕ) (s : Said) → OneStepIndexedAnswered H x w old new s → OneStepIndexedBy (checkEqual H) H x w old new s
   pub iterative-indexed : (x : List ℕ) (S : Setting) (xs : List Float) (said : Said) (w w′ : List ℕ) (ls ls′ : List ℤ)

@@ -7,7 +7,7 @@ use Rattle.matrix.specs.Paper.Code.{Matrix, matrix}
 use Rattle.session_record.specs.Paper.Record.{Record}
 use Rattle.session.specs.Paper.Call.{Leaves}
 use Rattle.session_asking.specs.Paper.Asked.{Held}
-use Rattle.session.specs.Paper.Steps.{stepOf}
+use Rattle.session.specs.Paper.Steps.{Left, stepOf}
 use Rattle.session_asking.specs.Paper.Asked.{lent}
 use Rattle.ffi_codes.specs.Codes.{Small}
 use Rattle.ffi_codes.specs.Records.{recordIn}
@@ -28,7 +28,7 @@ step-copy-requires c κs = search needs
 turn-code-requires : tie.Need-turn-code-requires
 turn-code-requires c κs = (
   c .before .before .before .before .before .before .before .before .before .if1 .left,
-  subst Small (sym (c .before .before .before .before .step-copy .ensures .says)) (step-small _ _ _),
+  subst Small (sym (c .before .before .before .before .step-copy .ensures .says)) (step-small _ _ _ _),
 )
 
 same-length : tie.Need-same-length
@@ -49,14 +49,16 @@ returns-2 c =
     let w : List ℕ = a .word .now in
     let ls : List ℤ = a .levels .now in
     let h : Held = lent (recordIn (a .cells .now)) w ls in
-    let v : Leaves (stepOf H (a .received .now) h) (t .result .answer) (t .result .session) (t .last .1 .1 .1 .1 .0) (t .last .1 .1 .1 .1 .1 .0) =
-    subst (λ (r : Record). Leaves (stepOf H (a .received .now) (lent r w ls)) (t .result .answer) (t .result .session) (t .last .1 .1 .1 .1 .0)
-    (t .last .1 .1 .1 .1 .1 .0)) (s .ensures) (t .ensures) in
+    let l : Left = stepOf H (a .received .now) (a .opened .now) h in
+    let w-last : List ℕ = t .last .1 .1 .1 .1 .1 .0 in
+    let ls-last : List ℤ = t .last .1 .1 .1 .1 .1 .1 .0 in
+    let v : Leaves l (t .result .answer) (t .result .session) w-last ls-last =
+    subst (λ (r : Record). Leaves (stepOf H (a .received .now) (a .opened .now) (lent r w ls)) (t .result .answer) (t .result .session) w-last ls-last)
+    (s .ensures) (t .ensures) in
     let r = c .before .before .turn-code in
-    on-record (stepOf H (a .received .now) h) h (r .result) (a .cells .now) (r .last .1 .0) (t .last .1 .1 .1 .1 .0) (t .last .1 .1 .1 .1 .1 .0)
+    on-record l h (r .result) (a .cells .now) (r .last .1 .0) w-last ls-last
     (c .before .before .before .before .before .before .before .before .before .before .before .before .if1 .left)
-    (called (stepOf H (a .received .now) h) (t .result .answer) (t .result .session) (r .result) (a .cells .now) (r .last .1 .0) (t .last .1 .1 .1 .1 .0)
-    (t .last .1 .1 .1 .1 .1 .0) v (r .ensures .0) (r .ensures .1))
+    (called l (t .result .answer) (t .result .session) (r .result) (a .cells .now) (r .last .1 .0) w-last ls-last v (r .ensures .0) (r .ensures .1))
 
 pub mlgd-step-spec : {M : Type 1} → statement M
 mlgd-step-spec =

@@ -8,7 +8,7 @@
 --   FaceTells               == different ends of two calls give different returned numbers
 --   FaceAnswerTells         == and with the reports' bytes different answers are told apart
 --   ReadBack                == counts and levels are read back from the bytes that a call leaves
---   FaceRecovered           == 0 is returned, the word is the codeword, the report says the rounds and as many changed bits as samples were wrong
+--   FaceRecovered           == 0 is returned, the word is the codeword, the report says the rounds and as many changed bits as samples with a level were wrong
 --   FaceRule, FaceAmple     == the flipping rule for the face, where the limit leaves the rounds for it, and where it is L / 2 + 1 or more
 -- proofs/Iterative.antt, Tells.antt, Back.antt and Rule.antt prove them for every call. Assumes nothing.
 use mathlib.Core.Path.{_≡_}
@@ -21,8 +21,9 @@ use Rattle.answers.specs.Paper.Answers.{accepted, Said, report, written}
 use Rattle.byte_numbers.specs.Paper.Numbers.{number16, entriesIn, samplesIn}
 use Rattle.matrix.specs.Paper.Code.{Matrix, failing}
 use Rattle.quantiser_levels.specs.Paper.Samples.{Setting, largest, hardBit}
-use Rattle.iterative_core.specs.Paper.Iterative.{changedBits, endFrom, iterativeVerdict, iterativeOf, iterativeWord, iterativeLevels}
-use Rattle.iterative_rule.specs.Paper.Claims.{wrongBits, roundsFor, SamplesWithinHalf}
+use Rattle.iterative_changed.specs.Paper.Changed.{decidedIn, changed}
+use Rattle.iterative_core.specs.Paper.Iterative.{startOf, endFrom, iterativeVerdict, iterativeOf, iterativeWord, iterativeLevels}
+use Rattle.iterative_rule.specs.Paper.Claims.{wrongBits, wrongDecided, roundsFor, SamplesWithinHalf}
 use Rattle.firmware_codes.specs.Paper.Codes.{resultOf, reportBytes, levelBytes, levelIn}
 use Rattle.firmware_codes.specs.Paper.Claims.{Told, ending}
 use Rattle.firmware_asking.specs.Paper.Asked.{faceMatrix, faceVerdict}
@@ -87,7 +88,7 @@ pub record ReadBack (H : Matrix) (S : Setting) (fs : List Float) (ls′ p′ : L
   pub levels : (j : ℕ) → j < H .n → levelIn (getD ls′ j 0) ≡ endFrom H S fs .last .R j
   pub rounds : number16 p′ 0 ≡ endFrom H S fs .k
   pub failing : number16 p′ 2 ≡ failing H (endFrom H S fs .last .z)
-  pub changed : number16 p′ 4 ≡ changedBits H (endFrom H S fs .last .z) (hardBit fs)
+  pub changed : number16 p′ 4 ≡ changed (H .n) (decidedIn (startOf S fs .R)) (endFrom H S fs .last .z) (hardBit fs)
   pub zero : number16 p′ 6 ≡ 0
 
 -- c being the codeword sent: rounds within the bound, and 0 exactly where no sample is wrong
@@ -96,7 +97,7 @@ pub record FaceRecovered (H : Matrix) (S : Setting) (c : List ℕ) (fs : List Fl
   pub soon : endFrom H S fs .k ≤ roundsFor (largest (S .bits)) (H .gamma) (wrongBits H c fs)
   pub result : r ≡ 0
   pub word : w′ ≡ over c w
-  pub report : p′ ≡ over (reportBytes (report 0 (endFrom H S fs .k) 0 (wrongBits H c fs))) p
+  pub report : p′ ≡ over (reportBytes (report 0 (endFrom H S fs .k) 0 (wrongDecided H S c fs))) p
 
 -- every codeword is recovered that the samples are within the half of, where the limit leaves the rounds for it
 abbrev pub FaceRule : Matrix → List ℕ → Setting → List ℕ → ℕ → List ℕ → List ℕ → List ℕ → List ℕ → List ℕ → Type 0

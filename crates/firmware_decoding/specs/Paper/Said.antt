@@ -7,13 +7,13 @@ use mathlib.Core.List.{List}
 use Rattle.answers.specs.Paper.Answers.{Said, after}
 use Rattle.byte_numbers.specs.Paper.Numbers.{samplesIn}
 use Rattle.matrix.specs.Paper.Code.{Matrix}
-use Rattle.quantiser_levels.specs.Paper.Samples.{Setting, hardBit}
-use Rattle.iterative_core.specs.Paper.Iterative.{endFrom, reportAt}
+use Rattle.quantiser_levels.specs.Paper.Samples.{Setting}
+use Rattle.iterative_core.specs.Paper.Iterative.{startOf, endFrom, reportAt}
 use Rattle.firmware_asking.specs.Paper.Asked.{faceVerdict}
 
 -- "must call the iterative decoder"
 unfoldable pub faceReport : Matrix → Setting → List ℕ → Said
-faceReport H S xs = reportAt H (hardBit (samplesIn xs)) (endFrom H S (samplesIn xs))
+faceReport H S xs = reportAt H (startOf S (samplesIn xs)) (endFrom H S (samplesIn xs))
 
 -- the answer
 unfoldable pub faceOf : Matrix → List ℕ → Setting → List ℕ → ℕ → ℕ → ℕ → Said

@@ -1,12 +1,11 @@
--- `iterative_core::iterative_accepted` meets its contract: the rounds run from the samples' bits and levels, and what is written and counted is
--- theirs at the end. Assumes nothing.
+-- `iterative_core::iterative_accepted` meets its contract: the rounds run from the samples' bits and levels, which are marked before; what is
+-- written and counted is theirs at the end. Assumes nothing.
 use mathlib.Core.Path.{refl, _∙_}
-use Prim.Native.Nat.{ℕ}
 use native.Mathlib.Omega.{arith}
 use borrow.Author.Needs.{needs}
-use lib.ListN.{length-replicate}
+use lib.ListN.{replicate}
 use Rattle.quantiser_settings.proofs.Ranges.{fits-reads}
-use Rattle.iterative_core.proofs.Results.{run-lent, call-hard, call-bits, call-restorable, call-decoded, packed-room}
+use Rattle.iterative_core.proofs.Results.{run-lent, call-bits, call-restorable, call-decoded}
 use Rattle.iterative_core.proofs.iterative_accepted.Statement.{statement}
 use Rattle.iterative_core.proofs.iterative_accepted.Tie as tie
 
@@ -43,22 +42,16 @@ start-requires c κs =
       refl,
     )
 
-slice-aggregate-pack-into : tie.Need-slice-aggregate-pack-into
-slice-aggregate-pack-into c = search needs
-
-pack-into-requires : tie.Need-pack-into-requires
-pack-into-requires c κs =
-    let s = c .before .before .before in
-    let p = entry s .pre .0 in
-    (p .matrix .sizes .n-most, omega (arith, p .matrix .sizes .n-most), call-hard p (s .start .ensures) (middle s .largest-of .ensures))
+mark-requires : tie.Need-mark-requires
+mark-requires c κs = search needs
 
 run-requires : tie.Need-run-requires
 run-requires c κs =
     let s = c .before .before .before .before .before .before .before in
     (run-lent (entry s .pre .0) (s .start .ensures) (middle s .largest-of .ensures), entry s .pre .1)
 
-pack-into-requires-2 : tie.Need-pack-into-requires-2
-pack-into-requires-2 c κs =
+pack-into-requires : tie.Need-pack-into-requires
+pack-into-requires c κs =
     let r = c .before .before in
     let s = started r in
     let p = entry s .pre .0 in
@@ -70,18 +63,12 @@ unbias-requires c κs =
     let s = started r in
     call-restorable (entry s .pre .0) (s .start .ensures) (middle s .largest-of .ensures) (r .run .ensures)
 
-slice-aggregate-changed-bits : tie.Need-slice-aggregate-changed-bits
-slice-aggregate-changed-bits c = search needs
-
-changed-bits-requires : tie.Need-changed-bits-requires
-changed-bits-requires c κs =
-    let u = c .before .before .before in
-    let r = ran (u .before) in
-    let p = entry (started r) .pre .0 in (
-      p .matrix .sizes .n-most,
-      packed-room _ _ _ _ (u .before .before .before .before .before .pack-into2 .ensures) (p .room-word),
-      packed-room _ _ _ _ (r .before .before .before .before .pack-into .ensures) (omega (arith, length-replicate {A = ℕ} 128 0)),
-    )
+turned-requires : tie.Need-turned-requires
+turned-requires c κs =
+    let r = ran (c .before .before .before .before) in
+    let s = started r in
+    let p = entry s .pre .0 in
+    (p .matrix .sizes .n-most, call-bits p (s .start .ensures) (middle s .largest-of .ensures) (r .run .ensures))
 
 ended-requires : tie.Need-ended-requires
 ended-requires c κs = search needs
@@ -99,11 +86,11 @@ returns c =
     let u = c .before .before .before .before .before in
     let r = ran (u .before) in
     let s = started r in
-    call-decoded (entry s .pre .0) (s .start .ensures) (middle s .largest-of .ensures) (r .run .ensures) _
-    (r .before .before .before .before .pack-into .ensures)
-    (u .before .before .before .before .before .pack-into2 .ensures)
+    call-decoded (entry s .pre .0) (s .start .ensures) (middle s .largest-of .ensures) (r .run .ensures) (replicate 1023 0)
+    (r .before .before .before .mark .ensures)
+    (u .before .before .before .before .before .pack-into .ensures)
     (u .unbias .ensures)
-    (c .before .changed-bits .ensures)
+    (c .before .turned .ensures)
     (c .ended .ensures)
 
 pub iterative-accepted-spec : {M : Type 1} → statement M
@@ -113,13 +100,11 @@ iterative-accepted-spec =
     cast-n
     largest-of-requires
     start-requires
-    slice-aggregate-pack-into
-    pack-into-requires
+    mark-requires
     run-requires
-    pack-into-requires-2
+    pack-into-requires
     unbias-requires
-    slice-aggregate-changed-bits
-    changed-bits-requires
+    turned-requires
     ended-requires
     same-length
     same-length-2

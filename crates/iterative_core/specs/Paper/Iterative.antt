@@ -1,21 +1,18 @@
 -- Iterative soft voting on samples: the whole call. (Document 01, "Iterative voting"; refusals 1 to 8.)
 --   startOf S xs             == step 1: the hard bits and the levels
---   changedIn n c z r        == how many of the places below n that c counts differ in the words z and r
---   changedBits H z r        == "changed": positions at which the word handed back differs from the received word
 --   endFrom H S xs           == the k and the state with which the list ends
---   reportAt H r e           == the answer at the end e, r being the received word
+--   reportAt H s e           == the answer at the end e of a list that starts at s
 --   samplesVerdict n S xs ..   == what is asked of the setting, the samples and the written buffers, once the matrix is accepted: 6, 7, 8
 --   iterativeVerdict         == what is asked before
 --   iterativeOf              == what iterative voting says
 --   iterativeWord, iterativeLevels   == what it writes
 -- Assumes nothing.
-use Prim.Native.Nat.{ℕ, _*_}
+use Prim.Native.Nat.{ℕ}
 use mathlib.Core.Bool.{not}
 use mathlib.Core.List.{List}
 use lib.IntN.{ℤ}
 use lib.Ieee.{Float, nan}
 use lib.ListN.{length, getD}
-use Rattle.counting.specs.Paper.Sum.{sumBelow, unequal}
 use Rattle.counting.specs.Paper.Lists.{listed}
 use Rattle.answers.specs.Paper.Answers.{Verdict, accepted, refuseWhen, refuseAt, andThen, wrongLengths, Said, report, outcomeBy, after}
 use Rattle.packed_word.specs.Paper.Packed.{bytesFor, pack}
@@ -23,26 +20,21 @@ use Rattle.matrix.specs.Paper.Code.{Matrix, failing}
 use Rattle.matrix.specs.Paper.Check.{checkOf}
 use Rattle.quantiser_levels.specs.Paper.Samples.{Setting, settingFits, largest, levelOf, hardBit, firstNotFinite}
 use Rattle.iterative_rounds.specs.Paper.Rounds.{State, state, End, endOf}
+use Rattle.iterative_changed.specs.Paper.Changed.{decidedIn, changed}
 
 -- "k = 0; z is the hard bits; R is the levels"
 unfoldable pub startOf : Setting → List Float → State
 startOf S xs = state (hardBit xs) (λ j. levelOf S (getD xs j nan))
 
--- the places at which two words differ, each as often as it counts: once or not at all
-unfoldable pub changedIn : ℕ → (ℕ → ℕ) → (ℕ → ℕ) → (ℕ → ℕ) → ℕ
-changedIn n counted z r = sumBelow n (λ j. counted j * unequal (z j) (r j))
-
--- "changed (positions at which the word handed back differs from the received word, that is from the hard bits where samples were lent)"
-unfoldable pub changedBits : Matrix → (ℕ → ℕ) → (ℕ → ℕ) → ℕ
-changedBits H z r = changedIn (H .n) (λ j. 1) z r
-
 -- the end of the list, from its start
 unfoldable pub endFrom : Matrix → Setting → List Float → End
 endFrom H S xs = endOf H (largest (S .bits)) 0 (S .limit) (startOf S xs)
 
--- "An answer holds: decoded or failed; rounds; failing ..; changed"
-unfoldable pub reportAt : Matrix → (ℕ → ℕ) → End → Said
-reportAt H r e = report (outcomeBy (failing H (e .last .z))) (e .k) (failing H (e .last .z)) (changedBits H (e .last .z) r)
+-- "An answer holds: decoded or failed; rounds; failing ..; changed". "For samples, changed is .. the number of positions with a level other
+-- than 0 at opening whose bit ends different": s holds the levels at opening, and the hard bits
+unfoldable pub reportAt : Matrix → State → End → Said
+reportAt H s e =
+    report (outcomeBy (failing H (e .last .z))) (e .k) (failing H (e .last .z)) (changed (H .n) (decidedIn (s .R)) (e .last .z) (s .z))
 
 -- refusals 6, 7 and 8: the written buffers have room for `bytes` bytes and `levels` levels
 unfoldable pub samplesVerdict : ℕ → Setting → List Float → ℕ → ℕ → Verdict
@@ -56,7 +48,7 @@ iterativeVerdict H S xs bytes levels = andThen (checkOf H) (samplesVerdict (H .n
 
 -- the answer
 unfoldable pub iterativeOf : Matrix → Setting → List Float → ℕ → ℕ → Said
-iterativeOf H S xs bytes levels = after (iterativeVerdict H S xs bytes levels) (reportAt H (hardBit xs) (endFrom H S xs))
+iterativeOf H S xs bytes levels = after (iterativeVerdict H S xs bytes levels) (reportAt H (startOf S xs) (endFrom H S xs))
 
 -- "The word is written in either outcome"
 unfoldable pub iterativeWord : Matrix → Setting → List Float → List ℕ

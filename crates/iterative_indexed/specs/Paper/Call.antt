@@ -12,8 +12,8 @@ use lib.ListN.{length}
 use Rattle.answers.specs.Paper.Answers.{Verdict, Said, after, written}
 use Rattle.matrix.specs.Paper.Code.{Matrix}
 use Rattle.matrix_index_check.specs.Paper.Call.{indexedVerdict}
-use Rattle.quantiser_levels.specs.Paper.Samples.{Setting, hardBit}
-use Rattle.iterative_core.specs.Paper.Iterative.{samplesVerdict, reportAt, endFrom, iterativeWord, iterativeLevels}
+use Rattle.quantiser_levels.specs.Paper.Samples.{Setting}
+use Rattle.iterative_core.specs.Paper.Iterative.{startOf, samplesVerdict, reportAt, endFrom, iterativeWord, iterativeLevels}
 
 -- refusals 1 to 5, 10, and those of setting and samples
 unfoldable pub iterativeIndexedVerdict : Matrix → List ℕ → Setting → List Float → ℕ → ℕ → Verdict
@@ -21,7 +21,7 @@ iterativeIndexedVerdict H x S xs bytes levels = indexedVerdict H x (samplesVerdi
 
 -- the answer: where nothing is refused, that of iterative voting
 unfoldable pub iterativeIndexedOf : Matrix → List ℕ → Setting → List Float → ℕ → ℕ → Said
-iterativeIndexedOf H x S xs bytes levels = after (iterativeIndexedVerdict H x S xs bytes levels) (reportAt H (hardBit xs) (endFrom H S xs))
+iterativeIndexedOf H x S xs bytes levels = after (iterativeIndexedVerdict H x S xs bytes levels) (reportAt H (startOf S xs) (endFrom H S xs))
 
 pub record IterativeIndexedAnswered (H : Matrix) (x : List ℕ) (S : Setting) (xs : List Float) (said : Said) (w w′ : List ℕ) (ls ls′ : List ℤ) : Type 0 where
   pub answer : said ≡ iterativeIndexedOf H x S xs (length w) (length ls)

@@ -9,8 +9,8 @@ use lib.Ieee.{Float}
 use lib.ListN.{length}
 use Rattle.answers.specs.Paper.Answers.{Verdict, accepted, refuseAt, Said, after}
 use Rattle.matrix.specs.Paper.Code.{Matrix}
-use Rattle.quantiser_levels.specs.Paper.Samples.{Setting, hardBit, firstNotFinite}
-use Rattle.iterative_core.specs.Paper.Iterative.{endFrom, reportAt, iterativeWord}
+use Rattle.quantiser_levels.specs.Paper.Samples.{Setting, firstNotFinite}
+use Rattle.iterative_core.specs.Paper.Iterative.{startOf, endFrom, reportAt, iterativeWord}
 use Rattle.program_text.specs.Paper.Output.{blockText}
 use Rattle.byte_numbers.specs.Paper.Numbers.{samplesIn}
 
@@ -20,7 +20,7 @@ blockVerdict xs = refuseAt 8 (firstNotFinite xs) (length xs) accepted
 
 -- "Blocks are decoded by iterative voting"
 unfoldable pub blockSaid : Matrix → Setting → List Float → Said
-blockSaid H S xs = after (blockVerdict xs) (reportAt H (hardBit xs) (endFrom H S xs))
+blockSaid H S xs = after (blockVerdict xs) (reportAt H (startOf S xs) (endFrom H S xs))
 
 -- "then one line a block"
 unfoldable pub blockLine : Matrix → Setting → ℕ → List ℕ → List ℕ

@@ -10,21 +10,20 @@ use lib.Ieee.{Float}
 use Rattle.counting.specs.Paper.Lists.{over}
 use Rattle.answers.specs.Paper.Answers.{accepted, report}
 use Rattle.matrix.specs.Paper.Code.{Matrix}
-use Rattle.quantiser_levels.specs.Paper.Samples.{Setting, largest, hardWord}
-use Rattle.iterative_rule.specs.Paper.Claims.{wrongBits, roundsFor, SamplesWithinHalf}
-use Rattle.session_asking.specs.Paper.Asked.{Held, openVerdict, stepVerdict}
-use Rattle.session.specs.Paper.Steps.{openOf}
-use Rattle.session.specs.Paper.WholeBySteps.{stepsOf}
+use Rattle.quantiser_levels.specs.Paper.Samples.{Setting, largest}
+use Rattle.iterative_rule.specs.Paper.Claims.{wrongBits, wrongDecided, roundsFor, SamplesWithinHalf}
+use Rattle.session_asking.specs.Paper.Asked.{Held, openVerdict}
+use Rattle.session.specs.Paper.WholeBySteps.{steppedOn, asksOn}
 
 -- so many accepted steps after the opening, none where no bit is wrong: decoded, rounds the steps, failing 0, changed the number of
--- wrong bits; the word is the codeword sent
+-- wrong bits that had a level; the word is the codeword sent
 pub record SteppedRight (H : Matrix) (S : Setting) (c : List ℕ) (xs : List Float) (h : Held) : Type 0 where
   pub steps : ℕ
   pub begun : 0 < wrongBits H c xs → 0 < steps
   pub soon : steps ≤ roundsFor (largest (S .bits)) (H .gamma) (wrongBits H c xs)
-  pub accepts : (t : ℕ) → t < steps → stepVerdict H (hardWord xs) (stepsOf H (hardWord xs) t (openOf H S xs h) .held) ≡ accepted
-  pub says : stepsOf H (hardWord xs) steps (openOf H S xs h) .said ≡ report 0 steps 0 (wrongBits H c xs)
-  pub word : stepsOf H (hardWord xs) steps (openOf H S xs h) .held .word ≡ over c (h .word)
+  pub accepts : (t : ℕ) → t < steps → asksOn H S xs h t ≡ accepted
+  pub says : steppedOn H S xs h steps .said ≡ report 0 steps 0 (wrongDecided H S c xs)
+  pub word : steppedOn H S xs h steps .held .word ≡ over c (h .word)
 
 -- for every codeword so near, where the limit leaves the rounds for it
 abbrev pub SteppingRule : Matrix → Setting → List Float → Held → Type 0

@@ -4,6 +4,7 @@ use mathlib.Core.Bool.{Bool}
 use mathlib.Core.List.{List}
 use Prim.Native.Nat.{ℕ}
 use borrow.Author.Needs.{needs}
+use lib.IntN.{ℤ}
 use lib.ListN.{length}
 use Rattle.answers.specs.Paper.Answers.{accepted, refuseWhen}
 use Rattle.answers.specs.Paper.Enums.{verdictOf, numberOf, placeOf}
@@ -14,7 +15,7 @@ use Rattle.syndrome.proofs.Received.{word-fits}
 use Rattle.session_asking.specs.Paper.Asked.{Held, beyond}
 use Rattle.session_asking.specs.Parts.{beyondIn}
 use Rattle.session_asking.specs.Paper.Asked.{heldOf}
-use Rattle.session_asking.proofs.Parts.{says-word, says-beyond}
+use Rattle.session_asking.proofs.Parts.{says-opened, says-word, says-beyond}
 use Rattle.session_asking.proofs.ask_lent.Statement.{statement}
 use Rattle.session_asking.proofs.ask_lent.Tie as tie
 
@@ -24,11 +25,14 @@ lent-matrix s = matrixOf (s .args .shape) (s .args .list .now)
 abbrev received : tie.Start → List ℕ
 received s = s .args .received .now
 
+abbrev opened : tie.Start → List ℤ
+opened s = s .args .opened .now
+
 abbrev held : tie.Start → Held
 held s = heldOf (s .args .session) (s .args .word .now) (s .args .levels .now)
 
 abbrev asked : tie.After-ask-word → tie.Start
-asked c = c .before .before .before .before .before .before
+asked c = c .before .before .before .before .before .before .before
 
 -- what was asked of the received word
 said : (c : tie.After-ask-word)
@@ -41,6 +45,11 @@ cast-n c = search needs
 
 largest-of-requires : tie.Need-largest-of-requires
 largest-of-requires c κs = search needs
+
+returns : tie.Need-returns
+returns c =
+    let s = c .before .before .before .before .before .before in
+    says-opened (lent-matrix s) (received s) (opened s) (held s) (c .if1 .taken)
 
 ask-word-requires : tie.Need-ask-word-requires
 ask-word-requires c κs = search needs
@@ -62,25 +71,25 @@ refused-when-requires c κs = search needs
 enum-known-asked : tie.Need-enum-known-asked
 enum-known-asked c = search needs
 
-returns : tie.Need-returns
+returns-2 : tie.Need-returns-2
 unfolding beyond
-returns c =
+returns-2 c =
     let t = c .before .before in
     let k = t .before .before in
     let s = asked k in
     let a = s .args in
-    says-beyond (lent-matrix s) (received s) (held s) _ (said k ∙ ap verdictOf (t .enum-told .given .1))
+    says-beyond (lent-matrix s) (received s) (opened s) (held s) (k .before .if1 .left) _ (said k ∙ ap verdictOf (t .enum-told .given .1))
     (c .refused-when .ensures
     ∙ ap (λ (t : Bool). refuseWhen 23 t accepted)
-    (c .before .is-beyond .ensures ∙ ap (λ (L : ℕ). beyondIn (a .shape .n) L (a .word .now) (a .levels .now)) (k .before .largest-of .ensures)))
+    (c .before .is-beyond .ensures ∙ ap (λ (L : ℕ). beyondIn (a .shape .n) L (a .word .now) (a .levels .now)) (k .before .before .largest-of .ensures)))
 
-returns-2 : tie.Need-returns-2
-returns-2 c =
+returns-3 : tie.Need-returns-3
+returns-3 c =
     let a = c .before in
     let k = a .before .before in
     let s = asked k in
     let f = a .asked .given in
-    says-word (lent-matrix s) (received s) (held s) (numberOf (f .0 .0)) (placeOf (f .0 .0)) (said k ∙ ap verdictOf (f .1))
+    says-word (lent-matrix s) (received s) (opened s) (held s) (k .before .if1 .left) (numberOf (f .0 .0)) (placeOf (f .0 .0)) (said k ∙ ap verdictOf (f .1))
 
 pub ask-lent-spec : {M : Type 1} → statement M
 ask-lent-spec =
@@ -88,10 +97,11 @@ ask-lent-spec =
     (tie.spec
     cast-n
     largest-of-requires
+    returns
     ask-word-requires
     enum-told
     is-beyond-requires
     refused-when-requires
     enum-known-asked
-    returns
-    returns-2)
+    returns-2
+    returns-3)

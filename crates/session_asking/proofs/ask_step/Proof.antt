@@ -3,6 +3,7 @@ use mathlib.Core.Path.{sym, ap, _∙_}
 use mathlib.Core.List.{List}
 use Prim.Native.Nat.{ℕ}
 use borrow.Author.Needs.{needs}
+use lib.IntN.{ℤ}
 use Rattle.answers.specs.Paper.Enums.{verdictOf, numberOf, placeOf}
 use Rattle.matrix.specs.Paper.Code.{Matrix}
 use Rattle.matrix.specs.Paper.Shapes.{matrixOf}
@@ -18,6 +19,9 @@ lent-matrix s = matrixOf (s .args .shape) (s .args .list .now)
 
 abbrev received : tie.Start → List ℕ
 received s = s .args .received .now
+
+abbrev opened : tie.Start → List ℤ
+opened s = s .args .opened .now
 
 abbrev held : tie.Start → Held
 held s = heldOf (s .args .session) (s .args .word .now) (s .args .levels .now)
@@ -45,14 +49,15 @@ returns : tie.Need-returns
 returns c =
     let k = c .before .before .before in
     let s = asked k in
-    says-lent (lent-matrix s) (received s) (held s) _ (sym (k .ask-known .ensures) ∙ ap verdictOf (c .before .enum-told .given .1)) (c .ask-lent .ensures)
+    says-lent (lent-matrix s) (received s) (opened s) (held s) _ (sym (k .ask-known .ensures) ∙ ap verdictOf (c .before .enum-told .given .1))
+    (c .ask-lent .ensures)
 
 returns-2 : tie.Need-returns-2
 returns-2 c =
     let k = c .before .before .before in
     let s = asked k in
     let f = c .before .known .given in
-    says-known (lent-matrix s) (received s) (held s) (numberOf (f .0 .0)) (placeOf (f .0 .0)) (sym (k .ask-known .ensures) ∙ ap verdictOf (f .1))
+    says-known (lent-matrix s) (received s) (opened s) (held s) (numberOf (f .0 .0)) (placeOf (f .0 .0)) (sym (k .ask-known .ensures) ∙ ap verdictOf (f .1))
 
 pub ask-step-spec : {M : Type 1} → statement M
 ask-step-spec =

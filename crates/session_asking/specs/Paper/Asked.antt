@@ -1,7 +1,8 @@
--- What opening and a step of a session ask. (Document 01, "Refused for the session".)
+-- What opening and a step of a session ask. (Document 01, "Refused for the session"; document 02, card 6.)
 --   Held               == the record, the word and the levels, as the caller keeps them
 --   lent r word levels == these three, as a call is lent them
 --   openVerdict, stepVerdict   == what opening and a step ask, in their order
+--   notOpened n o      == the levels lent as those of the opening are not exactly n: refusal 7 too
 --   unusable, ended    == refusals 20 and 21
 --   otherSizes         == refusal 22
 --   beyond             == refusal 23
@@ -60,15 +61,21 @@ unfoldable pub beyond : Matrix → Record → Held → Bool
 beyond H r h =
     spareSet (H .n) (h .word) || anyBelow (λ j. ltb (largest (r .bits)) (natAbs (getD (h .levels) j (pos 0)))) (H .n)
 
--- "A step asks in this order: 20, 21, 1 to 5, 22, 7, 9, 23"
-unfoldable pub stepVerdict : Matrix → List ℕ → Held → Verdict
-stepVerdict H w h =
+-- "the levels the opening wrote; a wrong length of those is 7, and what they hold is never refused"
+unfoldable pub notOpened : ℕ → List ℤ → Bool
+notOpened n o = not (eqb (length o) n)
+
+-- "A step asks in this order: 20, 21, 1 to 5, 22, 7, 9, 23": the lengths of 7 are those of the opening's levels o, the received word w and
+-- the written buffers
+unfoldable pub stepVerdict : Matrix → List ℕ → List ℤ → Held → Verdict
+stepVerdict H w o h =
     refuseWhen 20 (unusable (h .rec))
     (refuseWhen 21 (ended (h .rec))
     (andThen (checkOf H)
     (refuseWhen 22 (otherSizes H (h .rec))
+    (refuseWhen 7 (notOpened (H .n) o)
     (andThen (wordVerdict (H .n) w (length (h .word)) (length (h .levels)))
-    (refuseWhen 23 (beyond H (h .rec) h) accepted)))))
+    (refuseWhen 23 (beyond H (h .rec) h) accepted))))))
 
 abbrev pub heldOf : Session → List ℕ → List ℤ → Held
 heldOf s word levels = lent (recordOf s) word levels

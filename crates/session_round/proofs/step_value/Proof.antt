@@ -3,6 +3,7 @@ use mathlib.Core.Path.{sym, ap, _∙_}
 use mathlib.Core.List.{List}
 use Prim.Native.Nat.{ℕ}
 use borrow.Author.Needs.{needs}
+use lib.IntN.{ℤ}
 use Rattle.answers.specs.Paper.Enums.{verdictOf, numberOf, placeOf}
 use Rattle.matrix.specs.Paper.Code.{Matrix}
 use Rattle.matrix.specs.Paper.Shapes.{matrixOf}
@@ -19,6 +20,9 @@ lent-matrix s = matrixOf (s .args .shape) (s .args .list .now)
 
 abbrev received : tie.Start → List ℕ
 received s = s .args .received .now
+
+abbrev opened : tie.Start → List ℤ
+opened s = s .args .opened .now
 
 abbrev held : tie.Start → Held
 held s = heldOf (s .args .session) (s .args .word .now) (s .args .levels .now)
@@ -37,7 +41,7 @@ step-accepted-requires c κs =
     let t = c .before .before in
     let k = t .before .before in
     let s = asked k in
-    accepted-step (lent-matrix s) (received s) (held s) (sym (k .ask-step .ensures) ∙ ap verdictOf (t .enum-told .given .1))
+    accepted-step (lent-matrix s) (received s) (opened s) (held s) (sym (k .ask-step .ensures) ∙ ap verdictOf (t .enum-told .given .1))
 
 enum-known-asked : tie.Need-enum-known-asked
 enum-known-asked c = search needs
@@ -57,7 +61,7 @@ returns c =
     let t = r .before .before .before in
     let k = t .before .before in
     let s = asked k in
-    leaves-stepped (lent-matrix s) (received s) (held s) _ _ _ _ (sym (k .ask-step .ensures) ∙ ap verdictOf (t .enum-told .given .1))
+    leaves-stepped (lent-matrix s) (received s) (opened s) (held s) _ _ _ _ (sym (k .ask-step .ensures) ∙ ap verdictOf (t .enum-told .given .1))
     (r .step-accepted .ensures)
 
 same-length-3 : tie.Need-same-length-3
@@ -72,7 +76,7 @@ returns-2 c =
     let k = a .before .before in
     let s = asked k in
     let f = a .asked .given in
-    leaves-refused (lent-matrix s) (received s) (held s) _ _ (numberOf (f .0 .0)) (placeOf (f .0 .0))
+    leaves-refused (lent-matrix s) (received s) (opened s) (held s) _ _ (numberOf (f .0 .0)) (placeOf (f .0 .0))
     (sym (k .ask-step .ensures) ∙ ap verdictOf (f .1)) (c .refuse .ensures .1) (ap recordOf (c .refuse .ensures .0))
 
 pub step-value-spec : {M : Type 1} → statement M

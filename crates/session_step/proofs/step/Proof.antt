@@ -81,17 +81,20 @@ stayed = (
       stay-dropped (shrSliceOf (1 ∷ []) tt (plain (λ _. u16))) yes,
       (
         stay-dropped (shrSliceOf (2 ∷ []) tt (plain (λ _. u8))) yes,
-        (gave-slice (3 ∷ []) tt (plain (λ _. u8)), (gave-slice (4 ∷ []) tt (plain (λ _. i8)), tt)),
+        (
+          stay-dropped (shrSliceOf (3 ∷ []) tt (plain (λ _. i8))) yes,
+          (gave-slice (4 ∷ []) tt (plain (λ _. u8)), (gave-slice (5 ∷ []) tt (plain (λ _. i8)), tt)),
+        ),
       ),
     ),
   ),
 )
 
 -- what the callee ensures
-abbrev Gives : (h : Session) (shape : Shape) (list : RefT (List ℕ)) (received : RefT (List ℕ)) (word : RefT (List ℕ)) (levels : RefT (List ℤ)) (r : Turn)
-    (word-last : List ℕ) (levels-last : List ℤ) → Type 0
-Gives h shape list received word levels r word-last levels-last =
-    Leaves (stepOf (matrixOf shape (now list)) (now received) (heldOf h (now word) (now levels))) (r .answer) (r .session) word-last levels-last
+abbrev Gives : (h : Session) (shape : Shape) (list : RefT (List ℕ)) (received : RefT (List ℕ)) (opened : RefT (List ℤ)) (word : RefT (List ℕ))
+    (levels : RefT (List ℤ)) (r : Turn) (word-last : List ℕ) (levels-last : List ℤ) → Type 0
+Gives h shape list received opened word levels r word-last levels-last =
+    Leaves (stepOf (matrixOf shape (now list)) (now received) (now opened) (heldOf h (now word) (now levels))) (r .answer) (r .session) word-last levels-last
 
 -- the machine values of the record, and of the result
 abbrev mach : Session → Val
@@ -111,27 +114,29 @@ lies x = sliceVal (x .ptr) (length (x .now))
 abbrev Callee : {M : Type 1} (𝓤 : URA M) (H : Heap 𝓤) (A : Atoms 𝓤) (mem : Memory → SProp 𝓤) (run : Routine → Fun 𝓤) → Contract 𝓤
 Callee 𝓤 H A mem run = tripleOf 𝓤 H A callee.signature (callee.spec 𝓤 H A mem run)
 
-module _ {M : Type 1} (𝓤 : URA M) (H : Heap 𝓤) (A : Atoms 𝓤) (W : Given 𝓤 H A) (at-mem : Memory → SProp 𝓤) (run : Routine → Fun 𝓤) (κ₀ κ₁ κ₂ κ₃ κ₄ : Lft)
-    (bounds : AllOutlive 5 (f.signature .outlives) (κ₀, (κ₁, (κ₂, (κ₃, (κ₄, tt)))))) (q₀ q₁ q₂ q₃ q₄ : Share) (b o : ℕ) (γ : GName) (h : Session)
-    (shape : Shape) (list : RefT (List ℕ)) (received : RefT (List ℕ)) (word : RefT (List ℕ)) (levels : RefT (List ℤ)) where
+module _ {M : Type 1} (𝓤 : URA M) (H : Heap 𝓤) (A : Atoms 𝓤) (W : Given 𝓤 H A) (at-mem : Memory → SProp 𝓤) (run : Routine → Fun 𝓤) (κ₀ κ₁ κ₂ κ₃ κ₄ κ₅ : Lft)
+    (bounds : AllOutlive 6 (f.signature .outlives) (κ₀, (κ₁, (κ₂, (κ₃, (κ₄, (κ₅, tt))))))) (q₀ q₁ q₂ q₃ q₄ q₅ : Share) (b o : ℕ) (γ : GName) (h : Session)
+    (shape : Shape) (list : RefT (List ℕ)) (received : RefT (List ℕ)) (opened : RefT (List ℤ)) (word : RefT (List ℕ)) (levels : RefT (List ℤ)) where
   -- what the other parameters are, their machine values, the tokens of their lifetimes and their types
   abbrev Others : Type 0
-  Others = Shape × (RefT (List ℕ) × (RefT (List ℕ) × (RefT (List ℕ) × (RefT (List ℤ) × Unit {0}))))
+  Others = Shape × (RefT (List ℕ) × (RefT (List ℕ) × (RefT (List ℤ) × (RefT (List ℕ) × (RefT (List ℤ) × Unit {0})))))
 
   abbrev others : Others
-  others = (shape, (list, (received, (word, (levels, tt)))))
+  others = (shape, (list, (received, (opened, (word, (levels, tt))))))
 
-  abbrev other-vals : List Val × (List Val × (List Val × (List Val × (List Val × Unit {0}))))
-  other-vals = (mach-Shape shape ∷ [], (lies list ∷ [], (lies received ∷ [], (lies word ∷ [], (lies levels ∷ [], tt)))))
+  abbrev other-vals : List Val × (List Val × (List Val × (List Val × (List Val × (List Val × Unit {0})))))
+  other-vals = (mach-Shape shape ∷ [], (lies list ∷ [], (lies received ∷ [], (lies opened ∷ [], (lies word ∷ [], (lies levels ∷ [], tt))))))
 
   abbrev other-args : List Val
-  other-args = mach-Shape shape ∷ lies list ∷ lies received ∷ lies word ∷ lies levels ∷ []
+  other-args = mach-Shape shape ∷ lies list ∷ lies received ∷ lies opened ∷ lies word ∷ lies levels ∷ []
 
   abbrev tokens : Item 𝓤
-  tokens = ‵ (flft κ₁ q₁) ⊛ ‵ (flft κ₂ q₂) ⊛ ‵ (flft κ₃ q₃) ⊛ ‵ (flft κ₄ q₄) ⊛ ‵ ftrue
+  tokens = ‵ (flft κ₁ q₁) ⊛ ‵ (flft κ₂ q₂) ⊛ ‵ (flft κ₃ q₃) ⊛ ‵ (flft κ₄ q₄) ⊛ ‵ (flft κ₅ q₅) ⊛ ‵ ftrue
 
   abbrev other-rows : List RattleType
-  other-rows = Shape-type.the-row ∷ ShrSlice (named 1) κ₁ u16 ∷ ShrSlice (named 2) κ₂ u8 ∷ MutSlice (named 3) κ₃ u8 ∷ MutSlice (named 4) κ₄ i8 ∷ []
+  other-rows =
+      Shape-type.the-row ∷ ShrSlice (named 1) κ₁ u16 ∷ ShrSlice (named 2) κ₂ u8 ∷ ShrSlice (named 3) κ₃ i8 ∷ MutSlice (named 4) κ₄ u8 ∷
+      MutSlice (named 5) κ₅ i8 ∷ []
 
   abbrev Arg : Type 0
   Arg = RefT Session × Others
@@ -139,26 +144,26 @@ module _ {M : Type 1} (𝓤 : URA M) (H : Heap 𝓤) (A : Atoms 𝓤) (W : Given
   abbrev a : Arg
   a = (record { ptr = (b, o); name = γ; now = h }, others)
 
-  abbrev vals : List Val × (List Val × (List Val × (List Val × (List Val × (List Val × Unit {0})))))
+  abbrev vals : List Val × (List Val × (List Val × (List Val × (List Val × (List Val × (List Val × Unit {0}))))))
   vals = (vptr b o ∷ [], other-vals)
 
   abbrev Post : Val → SProp 𝓤
   Post =
       walkOf 𝓤 H A f.ended stayed (f.clauses 𝓤 H A at-mem run) .post
-      (((κ₀, (κ₁, (κ₂, (κ₃, (κ₄, tt))))), (q₀, (q₁, (q₂, (q₃, (q₄, tt))))), bounds, a, vals), tt)
+      (((κ₀, (κ₁, (κ₂, (κ₃, (κ₄, (κ₅, tt)))))), (q₀, (q₁, (q₂, (q₃, (q₄, (q₅, tt)))))), bounds, a, vals), tt)
 
   -- what the callee's triple binds outside: the record, and the other parameters as they came
   abbrev to-callee : Callee 𝓤 H A at-mem run .Ghost
-  to-callee = (((κ₁, (κ₂, (κ₃, (κ₄, tt)))), (q₁, (q₂, (q₃, (q₄, tt)))), tt, (h, others), (mach h ∷ [], other-vals)), tt)
+  to-callee = (((κ₁, (κ₂, (κ₃, (κ₄, (κ₅, tt))))), (q₁, (q₂, (q₃, (q₄, (q₅, tt))))), tt, (h, others), (mach h ∷ [], other-vals)), tt)
 
   goes : Is T.the-row h (mach h ∷ [])
-      → ent 𝓤 (sep 𝓤 (sep 𝓤 (A .lft κ₁ q₁) (sep 𝓤 (A .lft κ₂ q₂) (sep 𝓤 (A .lft κ₃ q₃) (sep 𝓤 (A .lft κ₄ q₄) (sem 𝓤 H A ftrue)))))
+      → ent 𝓤 (sep 𝓤 (sep 𝓤 (A .lft κ₁ q₁) (sep 𝓤 (A .lft κ₂ q₂) (sep 𝓤 (A .lft κ₃ q₃) (sep 𝓤 (A .lft κ₄ q₄) (sep 𝓤 (A .lft κ₅ q₅) (sem 𝓤 H A ftrue))))))
       (sem 𝓤 H A (owns (other-rows) others other-vals))) (Callee 𝓤 H A at-mem run .pre to-callee)
   goes g =
       qed W (tokens ∷ ‵ (owns (other-rows) others other-vals) ∷ []) ∵ move ! (1 ∷ 0 ∷ []) $
       owned ! T.the-row (Is T.the-row) (LL.makes T.the-type T′.the-plain 𝓤 H A) h _ g $ fjoin ! $ move ! (1 ∷ 0 ∷ []) $ join ! $ frame ! $ done !
 
-  exits : (r : Turn) (word-last : List ℕ) (levels-last : List ℤ) → Gives h shape list received word levels r word-last levels-last
+  exits : (r : Turn) (word-last : List ℕ) (levels-last : List ℤ) → Gives h shape list received opened word levels r word-last levels-last
       → length word-last ≡ length (now word) → length levels-last ≡ length (now levels) → Is Ans.the-row (r .answer) (machA (r .answer) ∷ [])
       → ent 𝓤 (⋆ 𝓤 H A (‵ (fobs γ (T.the-row .coded .code (r .session))) ∷ ‵ (fbor κ₀ (Body (mem T.the-row) b o γ)) ∷ ‵ (flft κ₀ q₀) ∷ tokens ∷
       ‵ (finally i8 (levels .name) levels-last) ∷ ‵ (finally u8 (word .name) word-last) ∷ [])) (Post (machA (r .answer)))
@@ -166,37 +171,39 @@ module _ {M : Type 1} (𝓤 : URA M) (H : Heap 𝓤) (A : Atoms 𝓤) (W : Given
       qed W (‵ (fobs γ (T.the-row .coded .code (r .session))) ∷ ‵ (fbor κ₀ (Body (mem T.the-row) b o γ)) ∷ ‵ (flft κ₀ q₀) ∷ tokens ∷
       ‵ (finally i8 (levels .name) levels-last) ∷ ‵ (finally u8 (word .name) word-last) ∷ []) ∵
       suffices ! _ (ends-at 𝓤 H A f.ended stayed (f.clauses 𝓤 H A at-mem run)
-      W (((κ₀, (κ₁, (κ₂, (κ₃, (κ₄, tt))))), (q₀, (q₁, (q₂, (q₃, (q₄, tt))))), bounds, a, vals), tt) (machA (r .answer)) (r .answer)
-      (r .session, (tt, (tt, (tt, (word-last, (levels-last, tt)))))) (tt, (tt, (tt, (tt, (l-word, (l-levels, tt))))))) $
+      W (((κ₀, (κ₁, (κ₂, (κ₃, (κ₄, (κ₅, tt)))))), (q₀, (q₁, (q₂, (q₃, (q₄, (q₅, tt)))))), bounds, a, vals), tt) (machA (r .answer)) (r .answer)
+      (r .session, (tt, (tt, (tt, (tt, (word-last, (levels-last, tt))))))) (tt, (tt, (tt, (tt, (tt, (l-word, (l-levels, tt)))))))) $
       says ! e $
       move ! (2 ∷ 3 ∷ []) $ join ! $ frame ! $ feqI ! (List Val) (vptr b o ∷ []) (vptr b o ∷ []) refl $ fjoin3 ! $
       nothing ! $ move ! (2 ∷ 0 ∷ []) $ fjoin ! $ move ! (2 ∷ 0 ∷ []) $ fjoin ! $ nothing ! $ fjoin ! $ nothing ! $ fjoin ! $ nothing ! $ fjoin ! $
-      move ! (1 ∷ 0 ∷ []) $ fjoin ! $
+      nothing ! $ fjoin ! $ move ! (1 ∷ 0 ∷ []) $ fjoin ! $
       owned ! Ans.the-row (Is Ans.the-row) (EL.makes Ans.the-type Ans′.the-plain 𝓤 H A) (r .answer) _ isA $ move ! (1 ∷ 0 ∷ []) $ done !
 
   module _ (C : Calls 𝓤 H) (Λ : Loops 𝓤 H) (fm : FmC 𝓤 H (W .laws) C) (known : Triple 𝓤 (C #callee) (Callee 𝓤 H A at-mem run))
       (p-shape : Is Shape-type.the-row shape (mach-Shape shape ∷ [])) (p-list : Is (ShrSlice (named 1) κ₁ u16) list (lies list ∷ []))
-      (p-received : Is (ShrSlice (named 2) κ₂ u8) received (lies received ∷ [])) (p-word : Is (MutSlice (named 3) κ₃ u8) word (lies word ∷ []))
-      (p-levels : Is (MutSlice (named 4) κ₄ i8) levels (lies levels ∷ [])) where
-    walk : ent 𝓤 (onEntry 𝓤 H A f.signature (κ₀, (κ₁, (κ₂, (κ₃, (κ₄, tt))))) (q₀, (q₁, (q₂, (q₃, (q₄, tt))))) a vals)
+      (p-received : Is (ShrSlice (named 2) κ₂ u8) received (lies received ∷ [])) (p-opened : Is (ShrSlice (named 3) κ₃ i8) opened (lies opened ∷ []))
+      (p-word : Is (MutSlice (named 4) κ₄ u8) word (lies word ∷ [])) (p-levels : Is (MutSlice (named 5) κ₅ i8) levels (lies levels ∷ [])) where
+    walk : ent 𝓤 (onEntry 𝓤 H A f.signature (κ₀, (κ₁, (κ₂, (κ₃, (κ₄, (κ₅, tt)))))) (q₀, (q₁, (q₂, (q₃, (q₄, (q₅, tt)))))) a vals)
         (WpFn 𝓤 H C Λ code.function (vptr b o ∷ other-args) Post)
     walk =
         qed W ((‵ (flft κ₀ q₀) ⊛ tokens) ∷ ‵ (owns (MutRef (named 0) κ₀ T.the-row ∷ other-rows) a vals) ∷ []) ∵ enter ! C Λ code.function
         (vptr b o ∷ other-args) _ $
         alloc1 ! (λ l0. alloc1 ! (λ l1. alloc1 ! (λ l2.
         alloc1 ! (λ l3. alloc1 ! (λ l4. alloc1 ! (λ l5.
-        alloc1 ! (λ l6. alloc1 ! (λ l7. alloc1 ! (λ l8. alloc1 ! (λ l9. alloc1 ! (λ l10. alloc1 ! (λ l11. alloc1 ! (λ l12. alloc0 ! $ params1 ! $
-        pass1 ! (init ! 22 refl (tt, tt)) $ pass1 ! (init ! 20 refl (LL.lawful Shape-type.the-type Shape-laws.the-laws 𝓤 H A W .typed shape _ p-shape .0)) $
-        pass1 ! (init ! 18 refl (tt, (tt, (record { fits = p-list .0 .1 .0 }, tt)))) $
-        pass1 ! (init ! 16 refl (tt, (tt, (record { fits = p-received .0 .1 .0 }, tt)))) $
+        alloc1 ! (λ l6. alloc1 ! (λ l7. alloc1 ! (λ l8.
+        alloc1 ! (λ l9. alloc1 ! (λ l10. alloc1 ! (λ l11. alloc1 ! (λ l12. alloc1 ! (λ l13. alloc0 ! $ params1 ! $
+        pass1 ! (init ! 24 refl (tt, tt)) $ pass1 ! (init ! 22 refl (LL.lawful Shape-type.the-type Shape-laws.the-laws 𝓤 H A W .typed shape _ p-shape .0)) $
+        pass1 ! (init ! 20 refl (tt, (tt, (record { fits = p-list .0 .1 .0 }, tt)))) $
+        pass1 ! (init ! 18 refl (tt, (tt, (record { fits = p-received .0 .1 .0 }, tt)))) $
+        pass1 ! (init ! 16 refl (tt, (tt, (record { fits = p-opened .0 .1 .0 }, tt)))) $
         pass1 ! (init ! 14 refl (tt, (tt, (record { fits = p-word .0 .1 .0 }, tt)))) $
         pass1 ! (init ! 12 refl (tt, (tt, (record { fits = p-levels .0 .1 .0 }, tt)))) $ pass0 ! $
-        move ! (27 ∷ []) $ fsplit ! $ fsplit3 ! $ drop ! $ move ! (29 ∷ []) $ split ! $ move ! (2 ∷ 3 ∷ 0 ∷ []) $
+        move ! (29 ∷ []) $ fsplit ! $ fsplit3 ! $ drop ! $ move ! (31 ∷ []) $ split ! $ move ! (2 ∷ 3 ∷ 0 ∷ []) $
         opens ! tt T.the-row {h = h} b o (λ vs. spelt ! T.the-row (Is T.the-row) (shows 𝓤 H A T.the-row) (LL.vals T.the-type T′.the-laws)
         (LL.tells T.the-type T′.the-laws) fullShare h vs b o $
         move ! (1 ∷ []) $ peeks ! T.the-row (Is T.the-row) (shows 𝓤 H A T.the-row) h (mach h ∷ []) (λ g. move ! (1 ∷ 0 ∷ []) $
         -- [the record's cell; what it owns; the open borrow; obs; auth; the other tokens; what the other parameters own; the locals, the last first]
-        assigns ! (of-opd ! (load ! (from ! (hop ! (look ! 29 refl) (stop !))) (look-raw ! 0 refl))) (from ! (stop !))
+        assigns ! (of-opd ! (load ! (from ! (hop ! (look ! 31 refl) (stop !))) (look-raw ! 0 refl))) (from ! (stop !))
         (init ! 15 refl (LL.lawful T.the-type T′.the-laws 𝓤 H A W .typed h _ g .0)) $
         assigns ! (addr ! (from ! (fld ! refl (hop ! (look-in ! 21 (sub ! 0 refl (whole !))) (stop !))))) (from ! (stop !)) (init ! 13 refl (tt, tt)) $
         assigns ! (agg ! (and-then ! (load ! (from ! (stop !)) (look ! 13 refl))
@@ -210,18 +217,22 @@ module _ {M : Type 1} (𝓤 : URA M) (H : Heap 𝓤) (A : Atoms 𝓤) (W : Given
         move ! (5 ∷ 6 ∷ []) $ use2 W (raw (Callee 𝓤 H A at-mem run .pre to-callee)) (goes g) $
         calls-at ! fm (Callee 𝓤 H A at-mem run) known to-callee
         (and-then ! (load ! (from ! (stop !)) (look ! 14 refl))
+        (and-then ! (load ! (from ! (stop !)) (look ! 28 refl))
         (and-then ! (load ! (from ! (stop !)) (look ! 26 refl))
         (and-then ! (load ! (from ! (stop !)) (look ! 24 refl))
         (and-then ! (load ! (from ! (stop !)) (look ! 22 refl))
-        (and-then ! (load ! (from ! (stop !)) (look ! 10 refl)) (and-then ! (load ! (from ! (stop !)) (look ! 6 refl)) (no-more !))))))) (λ w.
+        (and-then ! (load ! (from ! (stop !)) (look ! 10 refl)) (and-then ! (load ! (from ! (stop !)) (look ! 6 refl)) (no-more !)))))))) (λ w.
         use1 W (later (some (λ (r : Turn). (tokens ⊛ ‵ (U.the-row .own r (w ∷ []))) ⊛ raw
-        (ensured 𝓤 H A callee.ended (callee.clauses 𝓤 H A at-mem run) (κ₁, (κ₂, (κ₃, (κ₄, tt)))) (h, others) tt r)))) (id⊢ 𝓤 _) $ await ! tt $ pick ! (λ r.
+        (ensured 𝓤 H A callee.ended (callee.clauses 𝓤 H A at-mem run) (κ₁, (κ₂, (κ₃, (κ₄, (κ₅, tt))))) (h, others) tt r)))) (id⊢ 𝓤 _) $
+        await ! tt $ pick ! (λ r.
         -- what the callee ensures, at some last lists
         split ! $ move ! (1 ∷ []) $ use1 W (some
-        (λ (zs : Unit {0} × (Unit {0} × (Unit {0} × (Unit {0} × (List ℕ × (List ℤ × Unit {0})))))).
-        ‵ (lasts callee.ended (κ₁, (κ₂, (κ₃, (κ₄, tt)))) (h, others) zs) ⊛ raw
-        (fact 𝓤 (Gives h shape list received word levels r (zs .1 .1 .1 .1 .0) (zs .1 .1 .1 .1 .1 .0))))) (id⊢ 𝓤 _) $ pick ! (λ zs.
-        split ! $ move ! (1 ∷ []) $ heard ! (Gives h shape list received word levels r (zs .1 .1 .1 .1 .0) (zs .1 .1 .1 .1 .1 .0)) (λ e. fsplit ! $ drop ! $
+        (λ (zs : Unit {0} × (Unit {0} × (Unit {0} × (Unit {0} × (Unit {0} × (List ℕ × (List ℤ × Unit {0}))))))).
+        ‵ (lasts callee.ended (κ₁, (κ₂, (κ₃, (κ₄, (κ₅, tt))))) (h, others) zs) ⊛ raw
+        (fact 𝓤 (Gives h shape list received opened word levels r (zs .1 .1 .1 .1 .1 .0) (zs .1 .1 .1 .1 .1 .1 .0))))) (id⊢ 𝓤 _) $ pick ! (λ zs.
+        split ! $ move ! (1 ∷ []) $ heard ! (Gives h shape list received opened word levels r (zs .1 .1 .1 .1 .1 .0) (zs .1 .1 .1 .1 .1 .1 .0))
+        (λ e. fsplit ! $ drop ! $
+        fsplit ! $ drop ! $
         fsplit ! $ drop ! $
         fsplit ! $ drop ! $
         fsplit ! $ drop ! $
@@ -229,28 +240,29 @@ module _ {M : Type 1} (𝓤 : URA M) (H : Heap 𝓤) (A : Atoms 𝓤) (W : Given
         fsplit ! $ fsplit ! $ move ! (1 ∷ []) $ feqL ! (λ l-levels. move ! (1 ∷ []) $
         drop ! $ move ! (2 ∷ []) $ split ! $ move ! (1 ∷ []) $ peeks ! U.the-row (Is U.the-row) (shows 𝓤 H A U.the-row) r (w ∷ []) (λ is.
         land ! (from ! (stop !)) (init ! 19 refl (LL.lawful U.the-type U′.the-laws 𝓤 H A W .typed r _ is .0)) $
-        rewrite ! 19 (λ (u : Val). ‵ (fat fullShare U′.mir l7 0 u)) (ap only (LL.tells U.the-type U′.the-laws r _ is)) refl $
+        rewrite ! 19 (λ (u : Val). ‵ (fat fullShare U′.mir l8 0 u)) (ap only (LL.tells U.the-type U′.the-laws r _ is)) refl $
         -- [what the result owns; the other tokens; the last lists; the record's cell; what it owned; the open borrow; obs; auth; the locals, the last first]
-        assigns ! (of-opd ! (load ! (from ! (fld ! refl (stop !))) (look-in ! 19 (sub ! 0 refl (whole !))))) (from ! (hop ! (look ! 31 refl) (stop !)))
+        assigns ! (of-opd ! (load ! (from ! (fld ! refl (stop !))) (look-in ! 19 (sub ! 0 refl (whole !))))) (from ! (hop ! (look ! 33 refl) (stop !)))
         (store-raw ! 4 refl (LL.lawful T.the-type T′.the-laws 𝓤 H A W .typed (r .session) _ (LL.owed U.the-type U′.the-laws r _ is .0) .0)) $
         assigns ! (of-opd ! (load ! (from ! (fld ! refl (stop !))) (look-in ! 19 (sub ! 1 refl (whole !))))) (from ! (stop !))
-        (init ! 33 refl (EL.lawful Ans.the-type Ans′.the-laws 𝓤 H A W tt .typed (r .answer) _ (LL.owed U.the-type U′.the-laws r _ is .1 .0) .0)) $
+        (init ! 35 refl (EL.lawful Ans.the-type Ans′.the-laws 𝓤 H A W tt .typed (r .answer) _ (LL.owed U.the-type U′.the-laws r _ is .1 .0) .0)) $
         owned ! T.the-row (Is T.the-row) (LL.makes T.the-type T′.the-plain 𝓤 H A) (r .session) _ (LL.owed U.the-type U′.the-laws r _ is .0) $
         move ! (5 ∷ 0 ∷ 7 ∷ 8 ∷ 9 ∷ []) $ closes ! tt T.the-row (r .session) (mach (r .session) ∷ []) b o $
-        returns ! (look ! 32 refl) $ forget ! 8 refl $ forget ! 10 refl $ forget ! 12 refl $ forget ! 14 refl $ forget ! 16 refl $ forget ! 18 refl $
+        returns ! (look ! 34 refl) $ forget ! 8 refl $ forget ! 10 refl $ forget ! 12 refl $ forget ! 14 refl $ forget ! 16 refl $ forget ! 18 refl $
         forget ! 20 refl $ forget ! 22 refl $ forget ! 24 refl $ forget ! 26 refl $ forget ! 28 refl $ forget ! 30 refl $ forget ! 32 refl $
-        move ! (32 ∷ 33 ∷ []) $ free1 ! $ move ! (30 ∷ 31 ∷ []) $ free1 ! $ move ! (28 ∷ 29 ∷ []) $ free1 ! $ move ! (26 ∷ 27 ∷ []) $ free1 ! $
-        move ! (24 ∷ 25 ∷ []) $ free1 ! $ move ! (22 ∷ 23 ∷ []) $ free1 ! $ move ! (20 ∷ 21 ∷ []) $ free1 ! $ move ! (18 ∷ 19 ∷ []) $ free1 ! $
-        move ! (16 ∷ 17 ∷ []) $ free1 ! $ move ! (14 ∷ 15 ∷ []) $ free1 ! $ move ! (12 ∷ 13 ∷ []) $ free1 ! $ move ! (10 ∷ 11 ∷ []) $ free1 ! $
-        move ! (8 ∷ 9 ∷ []) $ free1 ! $ free0 ! $
-        keep ! (0 ∷ 1 ∷ 2 ∷ 4 ∷ 5 ∷ 6 ∷ []) $ by ! (exits r (zs .1 .1 .1 .1 .0) (zs .1 .1 .1 .1 .1 .0) e l-word l-levels
-        (LL.owed U.the-type U′.the-laws r _ is .1 .0))))))))))))))))))))))))
+        forget ! 34 refl $
+        move ! (34 ∷ 35 ∷ []) $ free1 ! $ move ! (32 ∷ 33 ∷ []) $ free1 ! $ move ! (30 ∷ 31 ∷ []) $ free1 ! $ move ! (28 ∷ 29 ∷ []) $ free1 ! $
+        move ! (26 ∷ 27 ∷ []) $ free1 ! $ move ! (24 ∷ 25 ∷ []) $ free1 ! $ move ! (22 ∷ 23 ∷ []) $ free1 ! $ move ! (20 ∷ 21 ∷ []) $ free1 ! $
+        move ! (18 ∷ 19 ∷ []) $ free1 ! $ move ! (16 ∷ 17 ∷ []) $ free1 ! $ move ! (14 ∷ 15 ∷ []) $ free1 ! $ move ! (12 ∷ 13 ∷ []) $ free1 ! $
+        move ! (10 ∷ 11 ∷ []) $ free1 ! $ move ! (8 ∷ 9 ∷ []) $ free1 ! $ free0 ! $
+        keep ! (0 ∷ 1 ∷ 2 ∷ 4 ∷ 5 ∷ 6 ∷ []) $ by ! (exits r (zs .1 .1 .1 .1 .1 .0) (zs .1 .1 .1 .1 .1 .1 .0) e l-word l-levels
+        (LL.owed U.the-type U′.the-laws r _ is .1 .0)))))))))))))))))))))))))
 
 module _ {M : Type 1} (𝓤 : URA M) (H : Heap 𝓤) (A : Atoms 𝓤) (W : Given 𝓤 H A) (mem : Memory → SProp 𝓤) (run : Routine → Fun 𝓤) where
   f-walks : (C : Calls 𝓤 H) (Λ : Loops 𝓤 H) → FmC 𝓤 H (W .laws) C → Triple 𝓤 (C #callee) (Callee 𝓤 H A mem run)
       → Walks 𝓤 H A f.ended stayed (WpFn 𝓤 H C Λ code.function) (f.clauses 𝓤 H A mem run)
   f-walks C Λ fm known = walked 𝓤 H A f.ended stayed (f.clauses 𝓤 H A mem run) (WpFn 𝓤 H C Λ code.function)
-      (λ κs. (ptr-vals, (LL.vals Shape-type.the-type Shape-laws.the-laws, (slice-vals, (slice-vals, (slice-vals, (slice-vals, tt)))))))
+      (λ κs. (ptr-vals, (LL.vals Shape-type.the-type Shape-laws.the-laws, (slice-vals, (slice-vals, (slice-vals, (slice-vals, (slice-vals, tt))))))))
       (λ κs. (
         mut-tells (named 0) (κs .0) T.the-row,
         (
@@ -259,26 +271,33 @@ module _ {M : Type 1} (𝓤 : URA M) (H : Heap 𝓤) (A : Atoms 𝓤) (W : Given
             shr-slice-tells (named 1) (κs .1 .0) u16,
             (
               shr-slice-tells (named 2) (κs .1 .1 .0) u8,
-              (mut-slice-tells (named 3) (κs .1 .1 .1 .0) u8, (mut-slice-tells (named 4) (κs .1 .1 .1 .1 .0) i8, tt)),
+              (
+                shr-slice-tells (named 3) (κs .1 .1 .1 .0) i8,
+                (mut-slice-tells (named 4) (κs .1 .1 .1 .1 .0) u8, (mut-slice-tells (named 5) (κs .1 .1 .1 .1 .1 .0) i8, tt)),
+              ),
             ),
           ),
         ),
       ))
       (λ κs qs bounds a _ are. via 𝓤 _ (fst∗ 𝓤 _ (emp 𝓤))
-      (walk 𝓤 H A W mem run (κs .0) (κs .1 .0) (κs .1 .1 .0) (κs .1 .1 .1 .0) (κs .1 .1 .1 .1 .0) bounds (qs .0) (qs .1 .0) (qs .1 .1 .0) (qs .1 .1 .1 .0)
-      (qs .1 .1 .1 .1 .0) (a .0 .ptr .0) (a .0 .ptr .1) (a .0 .name) (a .0 .now) (a .1 .0) (a .1 .1 .0) (a .1 .1 .1 .0) (a .1 .1 .1 .1 .0)
-      (a .1 .1 .1 .1 .1 .0) C Λ fm known (are .1 .0) (are .1 .1 .0) (are .1 .1 .1 .0) (are .1 .1 .1 .1 .0) (are .1 .1 .1 .1 .1 .0)))
+      (walk 𝓤 H A W mem run (κs .0) (κs .1 .0) (κs .1 .1 .0) (κs .1 .1 .1 .0) (κs .1 .1 .1 .1 .0) (κs .1 .1 .1 .1 .1 .0) bounds (qs .0) (qs .1 .0)
+      (qs .1 .1 .0) (qs .1 .1 .1 .0) (qs .1 .1 .1 .1 .0) (qs .1 .1 .1 .1 .1 .0) (a .0 .ptr .0) (a .0 .ptr .1) (a .0 .name) (a .0 .now) (a .1 .0) (a .1 .1 .0)
+      (a .1 .1 .1 .0) (a .1 .1 .1 .1 .0) (a .1 .1 .1 .1 .1 .0) (a .1 .1 .1 .1 .1 .1 .0) C Λ fm known (are .1 .0) (are .1 .1 .0) (are .1 .1 .1 .0)
+      (are .1 .1 .1 .1 .0) (are .1 .1 .1 .1 .1 .0) (are .1 .1 .1 .1 .1 .1 .0)))
 
-  goes-all : AllGo 𝓤 H A W 5 (f.signature .params) (f.ended .kept) stayed
+  goes-all : AllGo 𝓤 H A W 6 (f.signature .params) (f.ended .kept) stayed
   goes-all = (
-    goes-ref 𝓤 H A W 5 0 tt (plain (λ _. T.the-row)),
+    goes-ref 𝓤 H A W 6 0 tt (plain (λ _. T.the-row)),
     (
-      goes-dropped 𝓤 H A W 5 (plain (λ _. Shape-type.the-row)) yes (λ κs x f. refl),
+      goes-dropped 𝓤 H A W 6 (plain (λ _. Shape-type.the-row)) yes (λ κs x f. refl),
       (
-        goes-dropped 𝓤 H A W 5 (shrSliceOf (1 ∷ []) tt (plain (λ _. u16))) yes (λ κs x f. refl),
+        goes-dropped 𝓤 H A W 6 (shrSliceOf (1 ∷ []) tt (plain (λ _. u16))) yes (λ κs x f. refl),
         (
-          goes-dropped 𝓤 H A W 5 (shrSliceOf (2 ∷ []) tt (plain (λ _. u8))) yes (λ κs x f. refl),
-          (goes-gave-slice 𝓤 H A W 5 3 tt (plain (λ _. u8)), (goes-gave-slice 𝓤 H A W 5 4 tt (plain (λ _. i8)), tt)),
+          goes-dropped 𝓤 H A W 6 (shrSliceOf (2 ∷ []) tt (plain (λ _. u8))) yes (λ κs x f. refl),
+          (
+            goes-dropped 𝓤 H A W 6 (shrSliceOf (3 ∷ []) tt (plain (λ _. i8))) yes (λ κs x f. refl),
+            (goes-gave-slice 𝓤 H A W 6 4 tt (plain (λ _. u8)), (goes-gave-slice 𝓤 H A W 6 5 tt (plain (λ _. i8)), tt)),
+          ),
         ),
       ),
     ),

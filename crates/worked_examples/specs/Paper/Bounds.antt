@@ -26,7 +26,8 @@ use Rattle.matrix.specs.Paper.Code.{Matrix, matrix, entry, has, weight, common,
 use Rattle.matrix.specs.Paper.Check.{sizesFit, badEntry, badWeight, noLeast, overlapping, listOf, checkOf}
 use Rattle.quantiser_levels.specs.Paper.Samples.{Setting, stepFits, settingFits, nearestWhole, magnitude, levelOf, hardOf, hardBit, notFinite}
 use Rattle.iterative_rounds.specs.Paper.Rounds.{others, extrinsic, levelAfter, roundOf, endOf}
-use Rattle.iterative_core.specs.Paper.Iterative.{startOf, changedIn, changedBits, endFrom, reportAt, samplesVerdict, iterativeVerdict, iterativeOf}
+use Rattle.iterative_changed.specs.Paper.Changed.{decided, changed}
+use Rattle.iterative_core.specs.Paper.Iterative.{startOf, endFrom, reportAt, samplesVerdict, iterativeVerdict, iterativeOf}
 use Rattle.iterative_core.specs.Paper.Iterative.{iterativeWord, iterativeLevels}
 use Rattle.iterative_rule.specs.Paper.Claims.{roundsFor, Recovered}
 use Rattle.worked_examples.specs.Paper.Calls.{Call, decoding, made}
@@ -62,15 +63,15 @@ bounds =
     -- C, the codeword E0 with bit 0 wrong: -1.5, 0.5, 0.5, limit 2: E0
     ∷ row (decoding codeC (setting 2) (three 0xbfc0_0000 0x3f00_0000 0x3f00_0000) (0xff ∷ []) (pos 9 ∷ pos 9 ∷ pos 9 ∷ [])) (report 0 2 0 1) (0xe0 ∷ [])
     (pos 1 ∷ pos 1 ∷ pos 1 ∷ [])
-    -- the same with 0.1 at bit 1, whose level is 0: 00, a codeword but not the one sent
-    ∷ row (decoding codeC (setting 5) (three 0xbfc0_0000 0x3dcc_cccd 0x3f00_0000) (0xff ∷ []) (pos 9 ∷ pos 9 ∷ pos 9 ∷ [])) (report 0 2 0 2) (0 ∷ [])
+    -- the same with 0.1 at bit 1, whose level is 0: 00, a codeword but not the one sent; of the two bits that end different one had a level
+    ∷ row (decoding codeC (setting 5) (three 0xbfc0_0000 0x3dcc_cccd 0x3f00_0000) (0xff ∷ []) (pos 9 ∷ pos 9 ∷ pos 9 ∷ [])) (report 0 2 0 1) (0 ∷ [])
     (negsuc 0 ∷ pos 0 ∷ negsuc 0 ∷ [])
     ∷ []
 
 -- the written definitions yield each row
 pub all-bounds : eachMade bounds ≡ eachWanted bounds
 unfolding bounds strong codeC three eachMade eachWanted made codeA setting iterativeOf iterativeVerdict samplesVerdict iterativeWord iterativeLevels
-    reportAt endFrom changedBits changedIn startOf endOf roundOf levelAfter extrinsic others settingFits stepFits notFinite hardBit hardOf levelOf
+    reportAt endFrom changed decided startOf endOf roundOf levelAfter extrinsic others settingFits stepFits notFinite hardBit hardOf levelOf
     magnitude nearestWhole sumℤ ofBits ofFields odd lt le checkOf listOf sizesFit badEntry badWeight noLeast overlapping failing fails common weight has entry
     distance spareSet pack packedByte bitAt listed over anyBelow first sumBelow same unequal
 all-bounds = refl

@@ -25,7 +25,8 @@ use Rattle.majority_logic.specs.Paper.Votes.{votes, flipped}
 use Rattle.majority_logic.specs.Paper.OneStep.{stepWord, stepRounds, oneStepReport, oneStepVerdict, oneStepOf, oneStepWord}
 use Rattle.quantiser_levels.specs.Paper.Samples.{Setting, stepFits, settingFits, nearestWhole, magnitude, levelOf, hardOf, hardBit, notFinite}
 use Rattle.iterative_rounds.specs.Paper.Rounds.{others, extrinsic, levelAfter, roundOf, endOf}
-use Rattle.iterative_core.specs.Paper.Iterative.{startOf, changedIn, changedBits, endFrom, reportAt, samplesVerdict, iterativeVerdict, iterativeOf}
+use Rattle.iterative_changed.specs.Paper.Changed.{decided, changed}
+use Rattle.iterative_core.specs.Paper.Iterative.{startOf, endFrom, reportAt, samplesVerdict, iterativeVerdict, iterativeOf}
 use Rattle.iterative_core.specs.Paper.Iterative.{iterativeWord, iterativeLevels}
 use Rattle.worked_examples.specs.Paper.Calls.{Call, checking, counting, voting, decoding, Yields, yields, made}
 
@@ -87,8 +88,8 @@ table =
     ∷ row (decode 5 (seven 0x3f00_0000 0xbf80_0000)) (report 0 1 0 1) (0 ∷ []) (sevenLevels (negsuc 1) (negsuc 2))
     -- P7: P6 with limit 0: 80, failed, rounds 0, failing 3, changed 0; the levels stay 1 and six times -2
     ∷ row (decode 0 (seven 0x3f00_0000 0xbf80_0000)) (report 1 0 3 0) (0x80 ∷ []) (sevenLevels (pos 1) (negsuc 1))
-    -- P8: seven samples 0.1: 00, decoded, rounds 1, changed 7, levels all -3
-    ∷ row (decode 5 (seven 0x3dcc_cccd 0x3dcc_cccd)) (report 0 1 0 7) (0 ∷ []) (sevenLevels (negsuc 2) (negsuc 2))
+    -- P8: seven samples 0.1: 00, decoded, rounds 1, changed 0 (document 02, card 6: no sample has a level), levels all -3
+    ∷ row (decode 5 (seven 0x3dcc_cccd 0x3dcc_cccd)) (report 0 1 0 0) (0 ∷ []) (sevenLevels (negsuc 2) (negsuc 2))
     -- P9: rows 0 1 and 0 1: refusal 5, place 0
     ∷ row (checking (matrix 2 2 2 2 (0 ∷ 1 ∷ 0 ∷ 1 ∷ []))) (refusal 5 0) [] []
     -- P10: rows 0 1, 1 2, 0 2: accepted
@@ -106,7 +107,7 @@ eachWanted (r ∷ rs) = r .wanted ∷ eachWanted rs
 -- the written definitions yield each row
 pub all-rows : eachMade table ≡ eachWanted table
 unfolding table eachMade eachWanted made codeA codeB setting seven iterativeOf iterativeVerdict samplesVerdict iterativeWord iterativeLevels reportAt
-    endFrom changedBits changedIn startOf endOf roundOf levelAfter extrinsic others settingFits stepFits notFinite hardBit hardOf levelOf magnitude
+    endFrom changed decided startOf endOf roundOf levelAfter extrinsic others settingFits stepFits notFinite hardBit hardOf levelOf magnitude
     nearestWhole sumℤ ofBits ofFields odd lt le checkOf listOf sizesFit badEntry badWeight noLeast overlapping failingOf failingVerdict wordVerdict oneStepOf
     oneStepVerdict oneStepWord oneStepReport stepWord stepRounds flipped votes failing fails common weight has entry distance spareSet pack packedByte
     bitAt listed over anyBelow first sumBelow same unequal

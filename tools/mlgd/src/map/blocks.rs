@@ -9,9 +9,9 @@ pub const WITH_REASON: usize = 2_000;
 /// How a block ended.
 #[derive(Clone, Copy, Debug, PartialEq, Eq)]
 pub enum End {
-    /// Decoded, with so many wrong bits, and no other codeword is so near.
+    /// Decoded, with so many changed bits, and no other codeword is so near.
     Within(u32),
-    /// Decoded, with so many wrong bits, but beyond the half: to be looked at.
+    /// Decoded, with so many changed bits, but beyond the half: to be looked at.
     Beyond(u32),
     /// Not decoded; so many checks fail.
     Failed(u32),
@@ -23,8 +23,8 @@ impl End {
     fn of(row: &Row) -> End {
         let count = |of: fn(&Counts) -> usize| row.counts.as_ref().map_or(0, of) as u32;
         match row.outcome {
-            Outcome::Decoded if row.within_half => End::Within(count(|c| c.wrong_bits)),
-            Outcome::Decoded => End::Beyond(count(|c| c.wrong_bits)),
+            Outcome::Decoded if row.within_half => End::Within(count(|c| c.changed)),
+            Outcome::Decoded => End::Beyond(count(|c| c.changed)),
             Outcome::Failed => End::Failed(count(|c| c.failing)),
             Outcome::Refused => End::Refused,
         }
@@ -36,6 +36,14 @@ impl End {
 pub struct Block {
     pub number: usize,
     pub end: End,
+    /// How many further bits the vote turned, whose samples have level 0.
+    pub undecided: u32,
+}
+
+/// The wrong bits that are not counted as changed.
+fn undecided(row: &Row) -> u32 {
+    let counts = row.counts.as_ref();
+    counts.map_or(0, |c| c.wrong_bits.saturating_sub(c.changed)) as u32
 }
 
 /// The blocks in the table's order, and the reasons of some of them.
@@ -58,11 +66,15 @@ impl Blocks {
     }
 
     fn add(&mut self, row: Row) {
-        let (number, end) = (row.block, End::of(&row));
+        let block = Block {
+            number: row.block,
+            end: End::of(&row),
+            undecided: undecided(&row),
+        };
         if !row.reason.is_empty() && self.all.len() < WITH_REASON {
             self.reasons.push((self.all.len(), row.reason));
         }
-        self.all.push(Block { number, end });
+        self.all.push(block);
     }
 
     /// The reason of the block at this place, or nothing.
@@ -74,15 +86,17 @@ impl Blocks {
     }
 }
 
-/// Blocks without reasons, numbered from 0.
+/// Blocks without reasons and undecided bits, numbered from 0.
 #[cfg(test)]
 impl FromIterator<End> for Blocks {
     fn from_iter<T: IntoIterator<Item = End>>(ends: T) -> Blocks {
-        let numbered = (0..).zip(ends);
+        let block = |(number, end)| Block {
+            number,
+            end,
+            undecided: 0,
+        };
         Blocks {
-            all: numbered
-                .map(|(number, end)| Block { number, end })
-                .collect(),
+            all: (0..).zip(ends).map(block).collect(),
             reasons: Vec::new(),
         }
     }

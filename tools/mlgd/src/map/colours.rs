@@ -5,7 +5,7 @@
 use super::blocks::{Block, End};
 use crate::amount::counted;
 
-/// Blocks decoded within the half, from few wrong bits to many.
+/// Blocks decoded within the half, from few changed bits to many.
 pub const WITHIN: [&str; 6] = [
     "#dceaf7", "#c8def0", "#b3d1e8", "#9ec4e0", "#88b6d8", "#71a8cf",
 ];
@@ -13,10 +13,10 @@ pub const BEYOND: &str = "#c26a00";
 pub const FAILED: &str = "#a01818";
 pub const REFUSED: &str = "#1c1c1c";
 
-/// The kinds of a map: some counts of wrong bits within the half, then beyond it, failed and
+/// The kinds of a map: some counts of changed bits within the half, then beyond it, failed and
 /// refused.
 pub struct Kinds {
-    /// The least and the most wrong bits of each shade.
+    /// The least and the most changed bits of each shade.
     pub within: Vec<(u32, u32)>,
 }
 

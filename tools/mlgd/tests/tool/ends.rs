@@ -40,8 +40,9 @@ fn statuses() {
     );
 }
 
-/// Document 01's P8 and P3: decoded, but seven and six bits were changed where one is proved to be
-/// undone. Not open, yet told; with --strict the status tells it too.
+/// Document 01's P8 and P3: decoded, but seven and six bits ended different where one is proved to be
+/// undone. Of P8 none has a level: `changed` is 0 and `wrong_bits` 7. Not open, yet told; with --strict
+/// the status tells it too.
 #[test]
 fn beyond_the_half() {
     let Some(program) = program() else { return };
@@ -54,9 +55,14 @@ fn beyond_the_half() {
         assert_eq!(ran.status, status, "{ran:?}");
         assert!(ran.said.starts_with(said), "{}", ran.said);
         let row = folder.read("r").lines().nth(1).unwrap().to_string();
-        assert!(row.starts_with("1,0,decoded,1,0,7,7,no,"), "{row}");
+        let reason = "\"wrong_bits is 7, more than the 1 that is proved to be undone: ";
+        let begin = format!("1,0,decoded,1,0,0,7,no,{reason}");
+        assert!(row.starts_with(&begin), "{row}");
         assert!(row.ends_with(",x00"), "{row}");
     }
+    let map = folder.run_line("map r").text();
+    let tooltip = "block 0: decoded, no bit changed, 7 undecided bits turned, beyond the half";
+    assert!(map.contains(&format!("<title>{tooltip}</title>")), "{map}");
     folder.write("words", "xc0\n");
     for (strict, status) in [("", 0), (" --strict", 1)] {
         let line = "decode --one-step --matrix h --words words";
@@ -325,7 +331,7 @@ fn one_step() {
         [
             "1,0,decoded,0,0,0,0,yes,,x2e",
             "2,1,decoded,1,0,1,1,yes,,x2e",
-            "3,2,decoded,1,0,6,6,no,\"changed 6 bits, more than the 1 that is proved to be undone: \
+            "3,2,decoded,1,0,6,6,no,\"wrong_bits is 6, more than the 1 that is proved to be undone: \
              nothing proves this codeword to be the one sent, compare it with another reception \
              or send the block again\",x2e",
             "4,3,refused,,,,,no,the last place of the last byte is not 0: write the word's spare bits as 0,",

@@ -246,7 +246,7 @@ fn a_table_that_was_saved_again() {
 #[test]
 fn a_saved_table_with_commas() {
     let folder = Folder::new("saved-commas");
-    let reason = "changed 2 bits, more than the 1 that is proved to be undone";
+    let reason = "wrong_bits is 2, more than the 1 that is proved to be undone";
     for separator in [";", "\t"] {
         let row = ["5", "0", "decoded", "1", "0", "2", "2", "no", reason, "x2e"];
         let (header, row) = (COLUMNS.replace(',', separator), row.join(separator));

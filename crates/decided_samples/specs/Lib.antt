@@ -1,0 +1,2 @@
+-- The calls where all places count, and what stays.
+pub mod Paper
