@@ -1,6 +1,6 @@
 /*
- * Three calls of mlgd_decode: a block that is decoded, one that fails, one that is refused. It
- * prints what examples/firmware.txt has.
+ * Four calls of mlgd_decode: a block that is decoded, the same with finer levels, one that fails,
+ * one that is refused. It prints what examples/firmware.txt has.
  *
  *   make firmware
  *   cc -std=c11 -Wall -Wextra -Werror -Wconversion -Idist/include examples/firmware.c \
@@ -15,6 +15,12 @@ enum { N = 7, M = 7, RHO = 3, GAMMA = 3 };
 
 static const uint16_t rows[M * RHO] = {
     0, 1, 3, 1, 2, 4, 2, 3, 5, 3, 4, 6, 0, 4, 5, 1, 5, 6, 0, 2, 6,
+};
+
+/* The width of a level, the most rounds of voting and the level step. */
+struct setting {
+    uint16_t bits, limit;
+    float step;
 };
 
 /* What a call writes. */
@@ -51,14 +57,15 @@ static uint32_t bits_of(float number)
     return bits;
 }
 
-/* A byte in two's complement. */
-static int level_of(uint8_t byte)
+/* Reads a level: two bytes in two's complement, low byte first. */
+static int level_at(const uint8_t *at)
 {
-    return byte < 128 ? byte : byte - 256;
+    int number = (int)get16(at);
+    return number < 0x8000 ? number : number - 0x10000;
 }
 
-/* Decodes one block of code A with level step 0.5 and levels of three bits. */
-static uint32_t decode(uint16_t limit, const uint32_t samples[N], struct written *out)
+/* Decodes one block of code A by a level step. */
+static uint32_t decode(const struct setting *by, const uint32_t samples[N], struct written *out)
 {
     uint8_t list_bytes[MLGD_LIST_BYTES(M, RHO)];
     uint8_t sample_bytes[MLGD_SAMPLE_BYTES(N)];
@@ -69,7 +76,7 @@ static uint32_t decode(uint16_t limit, const uint32_t samples[N], struct written
         put32(sample_bytes + 4 * j, samples[j]);
     }
     return mlgd_decode(N, M, RHO, GAMMA, list_bytes, sizeof list_bytes,
-                       3, limit, MLGD_LEVEL_STEP, bits_of(0.5f),
+                       by->bits, by->limit, MLGD_LEVEL_STEP, bits_of(by->step),
                        sample_bytes, sizeof sample_bytes,
                        out->word, sizeof out->word,
                        out->levels, sizeof out->levels,
@@ -86,18 +93,18 @@ static void print_written(const struct written *out)
     }
     printf(", levels");
     for (size_t j = 0; j < N; j++) {
-        printf(" %d", level_of(out->levels[j]));
+        printf(" %d", level_at(out->levels + 2 * j));
     }
     printf("\n");
 }
 
 /* Decodes a block and prints a line. The buffers are filled before: a refusal leaves them. */
-static void show(const char *name, uint16_t limit, const uint32_t samples[N])
+static void show(const char *name, struct setting by, const uint32_t samples[N])
 {
     struct written out, before;
     memset(&before, 0xee, sizeof before);
     out = before;
-    uint32_t returned = decode(limit, samples, &out);
+    uint32_t returned = decode(&by, samples, &out);
     printf("%s: ", name);
     if (MLGD_REFUSAL(returned) != 0) {
         const char *left = memcmp(&out, &before, sizeof out) == 0 ? "nothing" : "something";
@@ -116,9 +123,11 @@ int main(void)
     for (size_t j = 1; j < N; j++) {
         samples[j] = bits_of(-1.0f);
     }
-    show("limit 5", 5, samples);
-    show("limit 0", 0, samples);
+    const struct setting coarse = {3, 5, 0.5f}, fine = {12, 255, 0.5f / 512}, none = {3, 0, 0.5f};
+    show("limit 5", coarse, samples);
+    show("12 bits", fine, samples);
+    show("limit 0", none, samples);
     samples[4] = 0x7fc00000; /* not a number */
-    show("sample 4 not a number", 5, samples);
+    show("sample 4 not a number", coarse, samples);
     return 0;
 }

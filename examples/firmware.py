@@ -32,14 +32,15 @@ def filled(count):
     return (ctypes.c_char * count)(*[FILLING] * count)
 
 
-def show(decode, name, limit, samples):
-    """Decodes a block with level step 0.5 and levels of three bits, and prints a line."""
+def show(decode, name, setting, samples):
+    """Decodes a block by a width, a limit and a level step, and prints a line."""
+    bits, limit, size = setting
     listed = struct.pack(f"<{M * RHO}H", *ROWS)
     block = struct.pack(f"<{N}f", *samples)
-    (step,) = struct.unpack("<I", struct.pack("<f", 0.5))
-    word, levels, report = filled((N + 7) // 8), filled(N), filled(8)
+    (step,) = struct.unpack("<I", struct.pack("<f", size))
+    word, levels, report = filled((N + 7) // 8), filled(2 * N), filled(8)
     returned = decode(
-        N, M, RHO, GAMMA, listed, len(listed), 3, limit, LEVEL_STEP, step, block, len(block),
+        N, M, RHO, GAMMA, listed, len(listed), bits, limit, LEVEL_STEP, step, block, len(block),
         word, len(word), levels, len(levels), report, len(report),
     )
     refusal, place = returned >> 16, returned & 0xFFFF
@@ -50,7 +51,7 @@ def show(decode, name, limit, samples):
         return
     outcome = "failed" if returned else "decoded"
     rounds, failing, changed, _ = struct.unpack("<4H", report.raw)
-    signed = " ".join(map(str, struct.unpack(f"<{N}b", levels.raw)))
+    signed = " ".join(map(str, struct.unpack(f"<{N}h", levels.raw)))
     counts = f"rounds {rounds}, failing {failing}, changed {changed}"
     print(f"{name}: {outcome}, {counts}, word {word.raw.hex()}, levels {signed}")
 
@@ -58,10 +59,12 @@ def show(decode, name, limit, samples):
 def main():
     decode = load(sys.argv[1] if len(sys.argv) > 1 else "dist/libmlgd.so")
     samples = [0.5] + [-1.0] * (N - 1)
-    show(decode, "limit 5", 5, samples)
-    show(decode, "limit 0", 0, samples)
+    coarse, fine, none = (3, 5, 0.5), (12, 255, 0.5 / 512), (3, 0, 0.5)
+    show(decode, "limit 5", coarse, samples)
+    show(decode, "12 bits", fine, samples)
+    show(decode, "limit 0", none, samples)
     samples[4] = float("nan")
-    show(decode, "sample 4 not a number", 5, samples)
+    show(decode, "sample 4 not a number", coarse, samples)
 
 
 if __name__ == "__main__":

@@ -35,7 +35,7 @@ extern "C" {
 #define MLGD_LIST_BYTES(m, rho) (2u * (size_t)(m) * (size_t)(rho))
 #define MLGD_SAMPLE_BYTES(n) (4u * (size_t)(n))
 #define MLGD_WORD_BYTES(n) (((size_t)(n) + 7u) / 8u)
-#define MLGD_LEVEL_BYTES(n) ((size_t)(n))
+#define MLGD_LEVEL_BYTES(n) (2u * (size_t)(n))
 #define MLGD_REPORT_BYTES 8u
 
 /*
@@ -43,8 +43,8 @@ extern "C" {
  * its arrays on the stack and needs no other memory, so the thread that calls must have this much
  * left. It does not ask how much is left.
  *
- * Measured: 155,192 bytes at its deepest, for a small matrix as for the largest: 65,472 for the
- * list, 67,520 for the matrix's index, 4,092 for the samples and about 18 KB for all else. (The
+ * Measured: 157,208 bytes at its deepest, for a small matrix as for the largest: 65,472 for the
+ * list, 67,520 for the matrix's index, 4,092 for the samples and about 20 KB for all else. (The
  * matrix check's 43,006 lie in the index's place, as it is done before the index is built.)
  *
  * A controller with less stack needs a build of its own. The arrays' sizes are constants in the
@@ -62,7 +62,8 @@ extern "C" {
  *                      the smallest number of ones in a column (1 to 32); n * gamma <= m * rho.
  *   list, list_bytes   the matrix: the column numbers of each row, ascending, row after row,
  *                      16 bits each, low byte first: exactly 2 * m * rho bytes.
- *   bits               the width b of a level, 2 to 8. Levels run from -L to L, L = 2^(b-1) - 1.
+ *   bits               the width b of a level, 2 to 12. Levels run from -L to L, L = 2^(b-1) - 1:
+ *                      127 with 8 bits, 2,047 with 12.
  *   limit              the most rounds of voting, 0 to 255.
  *   kind, step         MLGD_LEVEL_STEP or MLGD_FULL_SCALE, and the step, from 2^-20 to 2^20, as the
  *                      32 bits of an IEEE 754 single float (0.5 is 0x3f000000).
@@ -70,8 +71,8 @@ extern "C" {
  *     sample_bytes     stands for a bit 1, else for 0.
  *   word, word_bytes   written: the word, eight bits to a byte, bit 0 in the highest place of
  *                      byte 0, the last byte's spare places 0: (n + 7) / 8 bytes or more.
- *   levels,            written: the level of each bit as voting left it, one byte each in two's
- *     level_bytes      complement: n bytes or more.
+ *   levels,            written: the level of each bit as voting left it, 16 bits each in two's
+ *     level_bytes      complement, low byte first, whatever the width: 2 * n bytes or more.
  *   report,            written: rounds, failing, changed and a zero, 16 bits each, low byte first:
  *     report_bytes     8 bytes or more. Rounds of voting done; checks that fail in the word, 0 when
  *                      decoded; positions with a level other than 0 at opening, before the first
@@ -122,7 +123,9 @@ extern "C" {
  * that was sent has there, however strongly, the call returns MLGD_DECODED, the word is that
  * codeword, and changed is the number of wrong samples with a level other than 0. One exception:
  * where gamma is even and exactly gamma / 2 samples are wrong, no right bit 1 may have level 0 at
- * the start.
+ * the start. With bits 10, 11 and 12 L / 2 + 1 is 256, 512 and 1,024, more than the limit can be.
+ * With any limit the promise holds for every number w of wrong samples, 1 to t, for which the limit
+ * is at least L / (gamma - 2 * w + 2) + 1, rounded down; README.md has a table of them.
  *
  * Proved, for every input: what is returned and every byte that is written or stays, that no byte
  * outside the lent lengths is touched, that the call ends, and the promise. Trusted: the points

@@ -2,7 +2,7 @@
 //! bits in each round, failing rows are listed without a branch and add 1 at their columns.
 
 use crate::optimised::{is_regular, weights};
-use crate::whole::{vectors, Rounds, WIDTH};
+use crate::whole::{vectors, Kept, Rounds, WIDTH};
 use reference::Matrix;
 
 /// Lists the failing rows, as places of their first entry; gives how many they are.
@@ -53,15 +53,15 @@ pub(crate) unsafe fn add_votes<const RHO: usize>(
 /// E is votes' doubles less the weight where z is 0, its negative where z is 1. One of the two
 /// parts, what is above the weight and what is below, is always 0, so no cut hides the other.
 #[inline(always)]
-fn update_one(x: &mut u8, z: &mut u8, votes: u8, weight: u8, largest: u8) {
+fn update_one<K: Kept>(x: &mut K, z: &mut u8, votes: u8, weight: u8, largest: K) {
     let doubled = votes + votes;
     let above = doubled.saturating_sub(weight);
     let below = weight.saturating_sub(doubled);
     let ones = 0_u8.wrapping_sub(*z);
     let up = (above & !ones) | (below & ones);
     let down = (below & !ones) | (above & ones);
-    let raised = x.saturating_add(up).min(2 * largest);
-    *x = raised.saturating_sub(down);
+    let raised = x.plus(up.into()).min(largest.plus(largest));
+    *x = raised.less(down.into());
     *z = u8::from(*x > largest);
 }
 
@@ -84,12 +84,12 @@ impl Weights {
 
 /// The same for all columns.
 #[inline(always)]
-pub(crate) fn update(
-    x: &mut [u8; WIDTH],
+pub(crate) fn update<K: Kept>(
+    x: &mut [K; WIDTH],
     z: &mut [u8; WIDTH],
     votes: &[u8; WIDTH],
     weights: &Weights,
-    largest: u8,
+    largest: K,
     vectors: usize,
 ) {
     let all = x[..vectors].iter_mut().zip(&mut z[..vectors]).zip(votes);
@@ -123,12 +123,12 @@ impl Rounds for Accumulate {
     }
 
     #[inline(always)]
-    unsafe fn run<const RHO: usize>(
+    unsafe fn run<K: Kept, const RHO: usize>(
         &mut self,
         h: &Matrix,
         limit: u8,
-        largest: u8,
-        x: &mut [u8; WIDTH],
+        largest: K,
+        x: &mut [K; WIDTH],
         z: &mut [u8; WIDTH],
     ) -> (u8, usize) {
         let (list, vectors) = (&h.list[..], vectors(h));

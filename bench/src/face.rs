@@ -78,11 +78,11 @@ fn measure_code(code: &Code, step: f32, deviation: f64, turns: usize) {
     let bytes: Vec<_> = blocks.iter().map(|block| sample_bytes(block)).collect();
     let mut to = Written {
         word: vec![0; byte_count(h.n)],
-        levels: vec![0; n],
+        levels: vec![0; 2 * n],
         report: vec![0; 8],
     };
     compare(code, &list, step, &bytes, &to);
-    let (mut word, mut levels) = (to.word.clone(), vec![0i8; n]);
+    let (mut word, mut levels) = (to.word.clone(), vec![0i16; n]);
     let face = through_all(|at| {
         let (list, samples) = black_box((&list, &bytes[at]));
         let Written {

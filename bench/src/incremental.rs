@@ -9,7 +9,7 @@
 use crate::accumulate::{add_votes, update, Weights};
 use crate::index;
 use crate::optimised::is_regular;
-use crate::whole::{vectors, Rounds, WIDTH};
+use crate::whole::{vectors, Kept, Rounds, WIDTH};
 use reference::Matrix;
 
 /// A list of rows, as places of their first entry, or of columns.
@@ -133,12 +133,12 @@ impl<P: Parities> Rounds for Incremental<P> {
     }
 
     #[inline(always)]
-    unsafe fn run<const RHO: usize>(
+    unsafe fn run<K: Kept, const RHO: usize>(
         &mut self,
         h: &Matrix,
         limit: u8,
-        largest: u8,
-        x: &mut [u8; WIDTH],
+        largest: K,
+        x: &mut [K; WIDTH],
         z: &mut [u8; WIDTH],
     ) -> (u8, usize) {
         let (list, vectors) = (&h.list[..], vectors(h));

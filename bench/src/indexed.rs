@@ -145,7 +145,7 @@ pub fn received_blocks(code: &Code, deviation: f64) -> Vec<Vec<f32>> {
 #[derive(Clone, Debug, PartialEq)]
 struct Buffers {
     word: Vec<u8>,
-    levels: Vec<i8>,
+    levels: Vec<i16>,
 }
 
 /// Both calls give the reference's answer, word and levels on each block.

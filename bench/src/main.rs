@@ -1,8 +1,8 @@
 //! The library's times as ratios to a hand-optimised form in Rust, and the literal form's.
 //!
 //! CPU time of one call, the forms taking turns in the same run, the best of many turns: 300, or as
-//! many as the argument says, and a fifth of that for the programs, whose times are in the last
-//! table. Above each table stands what was done.
+//! many as the argument says, and a fifth of that for the programs, whose times are in the last two
+//! tables. Above each table stands what was done.
 
 mod changed;
 mod face;
@@ -230,4 +230,5 @@ fn main() {
     changed::measure(turns);
     sheets::measure(turns);
     programs::measure(turns.div_ceil(PROGRAM_SHARE));
+    programs::measure_widths(turns.div_ceil(PROGRAM_SHARE));
 }

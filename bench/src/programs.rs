@@ -1,5 +1,5 @@
 //! The program on no block, on 200 and on 4,000, against hand-optimised ones and the literal one in
-//! Rust.
+//! Rust; and with levels of 12 bits against levels of 8.
 //!
 //! CPU time of the child, user's and system's, with its start; the programs take turns, and the
 //! best of many runs counts. DECODE names another program than target/bin/decode, from the
@@ -29,17 +29,17 @@ pub fn cases() -> [(Code, f32, f64); 4] {
     ]
 }
 
-/// The input of all blocks, width 8, limit 30.
-fn input(code: &Code, step: f32, deviation: f64) -> Vec<u8> {
+/// The input of so many blocks, limit 30.
+fn input(code: &Code, bits: u16, step: f32, deviation: f64, count: usize) -> Vec<u8> {
     let mut random = Random::new(1);
     let codewords = Codewords::of(&code.matrix);
-    let blocks: Vec<Vec<f32>> = (0..MOST)
+    let blocks: Vec<Vec<f32>> = (0..count)
         .map(|_| {
             let sent = codewords.random(&mut random);
             noise::received(&sent, deviation, &mut random)
         })
         .collect();
-    stream::input(&code.matrix, &settings::level_step(8, 30, step), &blocks)
+    stream::input(&code.matrix, &settings::level_step(bits, 30, step), &blocks)
 }
 
 /// A file that is removed at the end.
@@ -87,15 +87,19 @@ fn time(program: &Path, input: &Stored) -> f64 {
 /// that was asked for.
 const USUAL: f64 = 16.0;
 
-/// The best times of four programs, taking turns, and how often each was run.
-fn best_times(turns: usize, programs: [&Path; 4], input: &Stored) -> ([f64; 4], usize) {
-    let mut best = [f64::INFINITY; 4];
-    let more = (USUAL / time(programs[0], input)).max(0.25);
+/// A program and its input.
+type Run<'a> = (&'a Path, &'a Stored);
+
+/// The best times of programs on their inputs, taking turns, and how often each was run.
+fn best_times<const COUNT: usize>(turns: usize, all: [Run; COUNT]) -> ([f64; COUNT], usize) {
+    let mut best = [f64::INFINITY; COUNT];
+    let more = (USUAL / time(all[0].0, all[0].1)).max(0.25);
     let runs = (turns as f64 * more).ceil() as usize;
     for run in 0..runs {
-        for at in 0..4 {
-            let at = (at + run) % 4;
-            best[at] = best[at].min(time(programs[at], input));
+        for at in 0..COUNT {
+            let at = (at + run) % COUNT;
+            let (program, input) = all[at];
+            best[at] = best[at].min(time(program, input));
         }
     }
     (best, runs)
@@ -167,7 +171,7 @@ pub fn measure(turns: usize) {
     println!("| code | blocks | rounds | runs | program / accumulate | program / incremental, bytes | program / incremental, bits | literal / accumulate | program ms | accumulate ms | incremental, bytes ms | incremental, bits ms | literal ms (from {LITERAL_BLOCKS} blocks) | rounds of these |");
     println!("|---|---|---|---|---|---|---|---|---|---|---|---|---|---|");
     for (code, step, deviation) in cases() {
-        let whole = input(&code, step, deviation);
+        let whole = input(&code, 8, step, deviation, MOST);
         let block = 4 * usize::from(code.matrix.n);
         let stored = |count: usize| {
             let name = format!("{}-{count}", code.name);
@@ -186,8 +190,9 @@ pub fn measure(turns: usize) {
         let for_each = (literal_few - literal_none) / LITERAL_BLOCKS as f64;
         let few_rounds = mean_rounds(&expected, LITERAL_BLOCKS);
         for blocks in BLOCKS {
-            let forms = [&program, &accumulate, &bytes, &bits].map(PathBuf::as_path);
-            let (best, runs) = best_times(turns, forms, &stored(blocks));
+            let lent = stored(blocks);
+            let forms = [&program, &accumulate, &bytes, &bits].map(|form| (form.as_path(), &lent));
+            let (best, runs) = best_times(turns, forms);
             let [by_program, by_accumulate, by_bytes, by_bits] = best;
             let by_literal = literal_none + for_each * blocks as f64;
             let rounds = match blocks {
@@ -203,5 +208,56 @@ pub fn measure(turns: usize) {
                 by_literal / by_accumulate,
             );
         }
+    }
+}
+
+/// How many blocks both widths are measured on.
+const WIDTH_BLOCKS: usize = 1000;
+
+/// The rows of a code: b = 12 against b = 8, with the same step and with one that is 16 times as fine.
+fn measure_widths_of(code: &Code, step: f32, deviation: f64, programs: [&Path; 2], turns: usize) {
+    let stored = |bits: u16, step: f32| {
+        let name = format!("{}-{bits}-{step}", code.name);
+        Stored::new(&name, &input(code, bits, step, deviation, WIDTH_BLOCKS))
+    };
+    let [program, accumulate] = programs;
+    let coarse = stored(8, step);
+    for (name, step) in [("the same", step), ("a 16th", step / 16.0)] {
+        let fine = stored(12, step);
+        let rounds = [&coarse, &fine].map(|lent| {
+            let lines = printed(program, lent);
+            assert!(printed(accumulate, lent) == lines, "{}", program.display());
+            mean_rounds(&lines, WIDTH_BLOCKS)
+        });
+        let all = [(program, &coarse), (program, &fine), (accumulate, &fine)];
+        let ([by_8, by_12, by_accumulate], runs) = best_times(turns, all);
+        println!(
+            "| {} | {name} | {:.1} | {:.1} | {runs} | {:.3} | {:.2} | {by_8:.2} | {by_12:.2} | {by_accumulate:.2} |",
+            code.name,
+            rounds[0],
+            rounds[1],
+            by_12 / by_8,
+            by_12 / by_accumulate,
+        );
+    }
+}
+
+pub fn measure_widths(turns: usize) {
+    let (program, accumulate) = (decode(), beside("bench_decode"));
+    println!();
+    println!(
+        "Finer levels: the program with levels of 12 bits and with levels of 8, on the same \
+         {WIDTH_BLOCKS} blocks, limit 30. With the same step the levels are the same numbers, but for \
+         those that 8 bits cut at ±127: that is the same work, and the goal is a ratio of at most 1.05. \
+         With a 16th of the step a sample has the same share of the largest level; a round moves a level \
+         by as much as before, so that more rounds are done, and most blocks end at the limit. The \
+         accumulate form at 12 bits has levels of two bytes as well. All take turns, and the best counts \
+         of as many runs as the column `runs` says."
+    );
+    println!();
+    println!("| code | step at 12 bits | rounds at 8 bits | rounds at 12 bits | runs | 12 bits / 8 bits | program / accumulate, 12 bits | program, 8 bits ms | program, 12 bits ms | accumulate, 12 bits ms |");
+    println!("|---|---|---|---|---|---|---|---|---|---|");
+    for (code, step, deviation) in cases() {
+        measure_widths_of(&code, step, deviation, [&program, &accumulate], turns);
     }
 }

@@ -1,6 +1,6 @@
 //! The program around the rounds, which each hand-optimised form brings itself: reads head and
 //! blocks through one buffer, quantises in floating point, prints the lines. The code is made anew
-//! for each row weight.
+//! for each row weight, with levels of a byte and of two.
 
 use crate::optimised;
 use reference::Matrix;
@@ -17,6 +17,42 @@ pub const WIDTH: usize = 1024;
 
 /// More than the longest head and than a block.
 const BUFFER: usize = 160 * 1024;
+
+/// A level kept as R + L: a byte where b is at most 8, else two.
+pub trait Kept: Copy + Ord + From<u8> {
+    /// Of a number that it has room for.
+    fn of(number: i32) -> Self;
+
+    /// The sum, at most the largest that there is room for.
+    fn plus(self, other: Self) -> Self;
+
+    /// The difference, at least 0.
+    fn less(self, other: Self) -> Self;
+}
+
+macro_rules! kept_as {
+    ($cell:ty) => {
+        impl Kept for $cell {
+            #[inline(always)]
+            fn of(number: i32) -> $cell {
+                number as $cell
+            }
+
+            #[inline(always)]
+            fn plus(self, other: $cell) -> $cell {
+                self.saturating_add(other)
+            }
+
+            #[inline(always)]
+            fn less(self, other: $cell) -> $cell {
+                self.saturating_sub(other)
+            }
+        }
+    };
+}
+
+kept_as!(u8);
+kept_as!(u16);
 
 /// Standard input through one buffer.
 struct Source<R> {
@@ -64,22 +100,22 @@ impl<R: Read> Source<R> {
 
 /// A quantiser's numbers: level = ⌊|sample| × scale + 1/2⌋, at most L.
 ///
-/// The exact quotient lies on a half-way or at least 2^−33 of its size away from it, as sample
-/// and step have 24 bits each and the gain seven. The two roundings err by 2^−52 together, and the
+/// The exact quotient lies on a half-way or at least 2^−37 of its size away from it, as sample
+/// and step have 24 bits each and the gain eleven. The two roundings err by 2^−52 together, and the
 /// scale is raised by 2^−50: a half-way then comes out at or above itself, and nothing else
 /// reaches it.
 struct Quantiser {
     scale: f64,
-    largest: u8,
+    largest: u16,
 }
 
 impl Quantiser {
     fn new(bits: u8, kind: u8, step: f32) -> Option<Quantiser> {
         let in_range = (1.0 / 1_048_576.0..=1_048_576.0).contains(&step);
-        if !(2..=8).contains(&bits) || kind > 1 || !in_range {
+        if !(2..=12).contains(&bits) || kind > 1 || !in_range {
             return None;
         }
-        let largest = (1_u8 << (bits - 1)) - 1;
+        let largest = (1_u16 << (bits - 1)) - 1;
         let gain = if kind == 0 { 1.0 } else { f64::from(largest) };
         Some(Quantiser {
             scale: gain / f64::from(step) * (1.0 + 2.0_f64.powi(-50)),
@@ -89,7 +125,12 @@ impl Quantiser {
 
     /// Levels as R + L and hard bits, or the first place of a sample that is not finite.
     #[inline(always)]
-    fn run(&self, block: &[u8], x: &mut [u8; WIDTH], z: &mut [u8; WIDTH]) -> Result<(), usize> {
+    fn run<K: Kept>(
+        &self,
+        block: &[u8],
+        x: &mut [K; WIDTH],
+        z: &mut [u8; WIDTH],
+    ) -> Result<(), usize> {
         let largest = i32::from(self.largest);
         let most = f64::from(largest);
         let mut not_finite = 0;
@@ -103,7 +144,7 @@ impl Quantiser {
             let magnitude = unsafe { cut.to_int_unchecked::<i32>() };
             // The sign as 0 or −1; a number is turned by (number ^ sign) − sign.
             let sign = bits >> 31;
-            *x = (largest + ((magnitude ^ sign) - sign)) as u8;
+            *x = K::of(largest + ((magnitude ^ sign) - sign));
             *z = u8::from(bits > 0);
         }
         if not_finite == 0 {
@@ -128,12 +169,12 @@ pub trait Rounds {
     ///
     /// # Safety
     /// The check has accepted the matrix, of row weight RHO, and it is the one of `of`.
-    unsafe fn run<const RHO: usize>(
+    unsafe fn run<K: Kept, const RHO: usize>(
         &mut self,
         h: &Matrix,
         limit: u8,
-        largest: u8,
-        x: &mut [u8; WIDTH],
+        largest: K,
+        x: &mut [K; WIDTH],
         z: &mut [u8; WIDTH],
     ) -> (u8, usize);
 }
@@ -151,16 +192,16 @@ struct Run {
 }
 
 /// The cells of one block. A mark is the hard bit, and 2 more where the level at opening is 0.
-struct Cells {
-    x: [u8; WIDTH],
+struct Cells<K> {
+    x: [K; WIDTH],
     z: [u8; WIDTH],
     marks: [u8; WIDTH],
 }
 
-impl Cells {
+impl<K: Kept> Cells<K> {
     /// Marks the places, with levels and bits as the quantiser left them.
     #[inline(always)]
-    fn mark(&mut self, largest: u8, vectors: usize) {
+    fn mark(&mut self, largest: K, vectors: usize) {
         let opened = self.x[..vectors].iter().zip(&self.z[..vectors]);
         for (mark, (x, z)) in self.marks[..vectors].iter_mut().zip(opened) {
             *mark = z | u8::from(*x == largest) << 1;
@@ -182,10 +223,10 @@ const LINES: usize = 1 << 16;
 impl Run {
     /// Decodes a block and appends its line.
     #[inline(always)]
-    fn block<R: Rounds, const RHO: usize>(
+    fn block<R: Rounds, K: Kept, const RHO: usize>(
         &self,
         rounds: &mut R,
-        cells: &mut Cells,
+        cells: &mut Cells<K>,
         number: usize,
         block: &[u8],
         out: &mut Vec<u8>,
@@ -198,11 +239,12 @@ impl Run {
             out.push(b'\n');
             return;
         }
-        let largest = self.quantiser.largest;
+        let largest = K::of(self.quantiser.largest.into());
         cells.mark(largest, vectors(&self.h));
         // SAFETY: the check has accepted the matrix, and RHO is its row weight.
-        let (rounds, failing) =
-            unsafe { rounds.run::<RHO>(&self.h, self.limit, largest, &mut cells.x, &mut cells.z) };
+        let (rounds, failing) = unsafe {
+            rounds.run::<K, RHO>(&self.h, self.limit, largest, &mut cells.x, &mut cells.z)
+        };
         let changed = cells.changed(n);
         out.extend(if failing == 0 {
             &b" decoded "[..]
@@ -219,14 +261,29 @@ impl Run {
         out.push(b'\n');
     }
 
+    /// Decodes all blocks, with levels of a byte if they have room there.
     fn blocks<R: Rounds, const RHO: usize>(
         &self,
         source: &mut Source<impl Read>,
         out: &mut Vec<u8>,
         to: &mut impl Write,
     ) {
+        match self.quantiser.largest {
+            ..=127 => self.blocks_kept::<R, u8, RHO>(source, out, to),
+            _ => self.blocks_kept::<R, u16, RHO>(source, out, to),
+        }
+    }
+
+    /// A function of its own for each: where one had both, the code for bytes came out a tenth slower.
+    #[inline(never)]
+    fn blocks_kept<R: Rounds, K: Kept, const RHO: usize>(
+        &self,
+        source: &mut Source<impl Read>,
+        out: &mut Vec<u8>,
+        to: &mut impl Write,
+    ) {
         let mut cells = Cells {
-            x: [0; WIDTH],
+            x: [K::of(0); WIDTH],
             z: [0; WIDTH],
             marks: [0; WIDTH],
         };
@@ -242,7 +299,7 @@ impl Run {
                 }
                 _ => {
                     let block = source.take(bytes);
-                    self.block::<R, RHO>(&mut rounds, &mut cells, number, block, out);
+                    self.block::<R, K, RHO>(&mut rounds, &mut cells, number, block, out);
                     if out.len() > LINES - 512 {
                         to.write_all(out).expect("standard output");
                         out.clear();
@@ -392,7 +449,7 @@ mod tests {
         ];
         steps.extend((0..40).map(|_| settings::some_step(&mut random)));
         for step in steps {
-            for bits in 2..=8 {
+            for bits in 2..=12 {
                 for setting in [
                     settings::level_step(bits, 0, step),
                     settings::full_scale(bits, 0, step),
@@ -426,7 +483,7 @@ mod tests {
     fn compare(setting: &reference::Setting, samples: &[f32]) {
         let quantiser = Quantiser::new(setting.bits as u8, setting.kind as u8, setting.step);
         let bytes: Vec<u8> = samples.iter().flat_map(|y| y.to_le_bytes()).collect();
-        let (mut x, mut z) = ([0; WIDTH], [0; WIDTH]);
+        let (mut x, mut z) = ([0_u16; WIDTH], [0; WIDTH]);
         let quantiser = quantiser.expect("the setting is in range");
         assert_eq!(quantiser.run(&bytes, &mut x, &mut z), Ok(()));
         for (at, &sample) in samples.iter().enumerate() {

@@ -49,7 +49,11 @@ fn blocks_by_chance() {
         let large = code.matrix.n > 300;
         for deviation in [0.4, 0.5, 0.55, 0.6, 0.8] {
             let limit = if large { 6 } else { 30 };
-            let setting = settings::level_step(8, limit, *random.pick(&[0.015, 0.025, 0.1]));
+            let step = *random.pick(&[0.015, 0.025, 0.1]);
+            let setting = match random.below(2) {
+                0 => settings::level_step(8, limit, step),
+                _ => settings::level_step(9 + random.below(4) as u16, limit, step / 4.0),
+            };
             let codewords = Codewords::of(&code.matrix);
             let blocks: Vec<Vec<f32>> = (0..if large { 2 } else { 20 })
                 .map(|_| noise::received(&codewords.random(&mut random), deviation, &mut random))

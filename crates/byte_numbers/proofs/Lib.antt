@@ -1,3 +1,4 @@
 pub mod Patterns
 pub mod Lists
+pub mod Joining
 pub mod Floats

@@ -1,12 +1,13 @@
 // Numbers and single-format floats that stand in bytes, low byte first.
-// Rests on `counting`. Document 01: "Worked by hand", the paragraph on the program. Document 02: card 3.
+// Rests on `counting`. Document 01: "Worked by hand", the paragraph on the program. Document 02: cards 3, 5 and 7.
 ghost use Prim.Native.Nat.{_+_, _/_, _≤_, _<_};
 ghost use mathlib.Core.Path.{_≡_};
 ghost use lib.Ieee.{binary32, ofBits};
 ghost use lib.Ieee.Scale.{finite};
 ghost use lib.ListN.{length};
+ghost use lib.Seq.{sets};
 ghost use Rattle.counting.specs.Paper.Lists.{over};
-ghost use Rattle.byte_numbers.specs.Paper.Numbers.{number16 as Numbers·number16, number32 as Numbers·number32, entriesIn};
+ghost use Rattle.byte_numbers.specs.Paper.Numbers.{number16 as Numbers·number16, number32 as Numbers·number32, bytes16, entriesIn};
 ghost use Rattle.byte_numbers.specs.Floats.{Sampled};
 
 // A byte as a wider number.
@@ -32,6 +33,15 @@ pub fn number32(bytes: &[u8], p: usize) -> u32
     let low = number16(bytes, p);
     let high = number16(bytes, p + 2);
     low as u32 + 65536 * (high as u32)
+}
+
+// A 16-bit number at byte p, low byte first. Only this repository's crates call it, with room for it.
+pub fn put16(x: u16, p: usize, bytes: &mut [u8])
+    requires { ⌜ p + 1 < length (now bytes) ⌝ }
+    ensures { λ _. ⌜ now (bytes .exit) ≡ sets (now (bytes .entry)) p (bytes16 x) ⌝ }
+{
+    bytes[p] = (x % 256) as u8;
+    bytes[p + 1] = (x / 256) as u8;
 }
 
 // The 16-bit numbers that the bytes are, at the front of an array. Only this repository's crates call it, with room for them.

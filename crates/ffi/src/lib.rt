@@ -1,5 +1,5 @@
 // Exported functions for tests and benchmarks: each answer is one number of 64 bits.
-// Rests on every decoder, on `changed_bits`, on the calls for sheets and on `ffi_codes`. Design, section 4: the test face.
+// Rests on every decoder, on `changed_bits`, on `quantiser_widths`, on the calls for sheets and on `ffi_codes`. Design, section 4: the test face.
 use ffi_codes::RECORD_CELLS;
 use ffi_codes::answer_code;
 use ffi_codes::checked_code;
@@ -10,6 +10,7 @@ use ffi_codes::stored_code;
 use ffi_codes::turn_code;
 use matrix_check::Shape;
 use quantiser_levels::Cell;
+use quantiser_widths::Old;
 ghost use mathlib.Core.Path.{_≡_};
 ghost use lib.ListN.{length};
 ghost use Rattle.answers.specs.Paper.Answers.{acceptance, after, written};
@@ -23,6 +24,7 @@ ghost use Rattle.sheet.specs.Paper.MatrixSheet.{sheetOf};
 ghost use Rattle.sheet.specs.Paper.Calls.{sizesOf, toListVerdict, toListOf, toSheetVerdict, toSheetOf};
 ghost use Rattle.majority_logic.specs.Paper.OneStep.{oneStepVerdict, oneStepOf, oneStepWord};
 ghost use Rattle.one_step_indexed.specs.Paper.Call.{oneStepIndexedVerdict, oneStepIndexedOf};
+ghost use Rattle.quantiser_widths.specs.Paper.Widths.{widenVerdict, narrowVerdict};
 ghost use Rattle.session_asking.specs.Paper.Asked.{lent};
 ghost use Rattle.session.specs.Paper.Steps.{openOf, stepOf};
 ghost use Rattle.ffi_codes.specs.Codes.{codeOf};
@@ -99,6 +101,26 @@ pub extern "C" fn mlgd_quantise(
     ensures { λ r. ⌜ QuantisedAs (settingBy bits limit kind step) (now (samples .entry)) r (now (levels .entry)) (now (levels .exit)) (now (word .entry)) (now (word .exit)) ⌝ }
 {
     let a = quantiser::quantise(setting_of(bits, limit, kind, step), samples, levels, word);
+    checked_code(a)
+}
+
+// Old stored levels, of eight bits, brought over.
+#[no_mangle]
+pub extern "C" fn mlgd_widen(old: &[Old], levels: &mut [Cell]) -> u64
+    ensures answer { λ r. ⌜ r ≡ codeOf (after (widenVerdict (now (old .entry)) (length (now (levels .entry)))) acceptance) ⌝ }
+    ensures levels { λ r. ⌜ now (levels .exit) ≡ written (widenVerdict (now (old .entry)) (length (now (levels .entry)))) (now (old .entry)) (now (levels .entry)) ⌝ }
+{
+    let a = quantiser_widths::widen(old, levels);
+    checked_code(a)
+}
+
+// And taken back.
+#[no_mangle]
+pub extern "C" fn mlgd_narrow(levels: &[Cell], old: &mut [Old]) -> u64
+    ensures answer { λ r. ⌜ r ≡ codeOf (after (narrowVerdict (now (levels .entry)) (length (now (old .entry)))) acceptance) ⌝ }
+    ensures old { λ r. ⌜ now (old .exit) ≡ written (narrowVerdict (now (levels .entry)) (length (now (old .entry)))) (now (levels .entry)) (now (old .entry)) ⌝ }
+{
+    let a = quantiser_widths::narrow(levels, old);
     checked_code(a)
 }
 

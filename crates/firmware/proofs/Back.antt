@@ -15,7 +15,7 @@ use Rattle.answers.specs.Paper.Answers.{Verdict, accepted, report, outcomeBy, w
 use Rattle.answers.proofs.Verdicts.{passed, passed-on}
 use Rattle.byte_numbers.specs.Paper.Numbers.{number16, samplesIn}
 use Rattle.matrix.specs.Paper.Code.{Matrix, failing}
-use Rattle.quantiser_levels.specs.Paper.Samples.{Setting, settingFits, largest, hardBit}
+use Rattle.quantiser_levels.specs.Paper.Samples.{Setting, settingFits, mostLevel, largest, hardBit}
 use Rattle.quantiser_settings.proofs.Ranges.{fits-reads, largest-most}
 use Rattle.iterative_changed.specs.Paper.Changed.{decidedIn, changed}
 use Rattle.iterative_core.specs.Paper.Iterative.{startOf, endFrom, reportAt, iterativeLevels}
@@ -36,8 +36,8 @@ number-over new old i h =
 
 module _ (H : Matrix) (S : Setting) (xs : List ℕ) where
   -- a level at the front of a buffer that was written over
-  level-over : (old : List ℕ) (j : ℕ) → largest (S .bits) ≤ 127 → j < H .n
-      → levelIn (getD (over (levelBytes (iterativeLevels H S (samplesIn xs))) old) j 0) ≡ endFrom H S (samplesIn xs) .last .R j
+  level-over : (old : List ℕ) (j : ℕ) → largest (S .bits) ≤ mostLevel → j < H .n
+      → levelIn (number16 (over (levelBytes (iterativeLevels H S (samplesIn xs))) old) (2 * j)) ≡ endFrom H S (samplesIn xs) .last .R j
   unfolding iterativeLevels
   level-over old j few h =
       let Ls = iterativeLevels H S (samplesIn xs) in
@@ -45,7 +45,7 @@ module _ (H : Matrix) (S : Setting) (xs : List ℕ) where
       let b = level-bytes-back Ls in
       let own : getD Ls j (pos 0) ≡ R j = getD-listed (H .n) R j (pos 0) h in
       let long = levels-long H S (samplesIn xs) in
-      ap levelIn (getD-over-new (levelBytes Ls) old j 0 (omega (arith, long, b .long)))
+      ap levelIn (number-over (levelBytes Ls) old (2 * j) (omega (arith, long, b .long)))
       ∙ b .back j (omega (arith, long)) (omega (arith, ap natAbs own, end-bound H S (samplesIn xs) j)) ∙ own
 
   -- what a call that is not refused leaves
@@ -63,7 +63,7 @@ module _ (H : Matrix) (S : Setting) (xs : List ℕ) where
       let turned : ℕ = changed (H .n) (decidedIn (startOf S (samplesIn xs) .R)) (t .last .z) (hardBit (samplesIn xs)) in
       let back = report-back (outcomeBy (failing H (t .last .z))) (t .k) (failing H (t .last .z)) turned in
       record {
-        levels = λ j h. ap (λ (x : List ℕ). levelIn (getD x j 0)) l ∙ level-over ls j (largest-most (S .bits) (fits-reads S y .most)) h;
+        levels = λ j h. ap (λ (x : List ℕ). levelIn (number16 x (2 * j))) l ∙ level-over ls j (largest-most (S .bits) (fits-reads S y .most)) h;
         rounds = ap (λ (x : List ℕ). number16 x 0) q ∙ number-over (reportBytes rep) p 0 (omega arith) ∙ back .rounds;
         failing = ap (λ (x : List ℕ). number16 x 2) q ∙ number-over (reportBytes rep) p 2 (omega arith) ∙ back .failing;
         changed = ap (λ (x : List ℕ). number16 x 4) q ∙ number-over (reportBytes rep) p 4 (omega arith) ∙ back .changed;

@@ -1,4 +1,5 @@
 -- The face is iterative voting on the bytes read as numbers.
+--   half-ltb            == bytes are too few for two each where their half is too few for one each
 --   asks-same, says-same == of whole numbers it asks and says what iterative voting asks and says
 --   face-is-iterative   == and writes what it writes
 --   only-whole          == a call that is not refused lends whole numbers
@@ -8,7 +9,7 @@ use mathlib.Core.Bool.{Bool, true, false, not, _||_}
 use mathlib.Core.List.{List}
 use Prim.Native.Nat.{ℕ, _*_, _/_}
 use native.Mathlib.Omega.{arith}
-use borrow.Author.Tests.{eq-eqb, ne-eqb, eqb-true, eqb-false, le-ltb, ltb-false, not-false}
+use borrow.Author.Tests.{eq-eqb, ne-eqb, eqb-true, eqb-false, lt-ltb, le-ltb, ltb-true, ltb-false, not-false}
 use lib.Dec.{eqb, ltb}
 use lib.ListN.{length}
 use Rattle.counting.proofs.Searches.{cases, or-left, or-right}
@@ -40,6 +41,12 @@ twice-eqb a b k e = same-test a (2 * k) b k (λ q. omega arith) (λ q. omega ari
 four-eqb : (a b k : ℕ) → a ≡ 4 * b → eqb a (4 * k) ≡ eqb b k
 four-eqb a b k e = same-test a (4 * k) b k (λ q. omega arith) (λ q. omega arith)
 
+-- and bytes are too few for two each where their half is too few for one each
+pub half-ltb : (a k : ℕ) → ltb a (2 * k) ≡ ltb (a / 2) k
+half-ltb a k =
+    cases (ltb (a / 2) k) (λ y. lt-ltb a (2 * k) (omega (arith, ltb-true (a / 2) k y)) ∙ sym y)
+    (λ n. le-ltb a (2 * k) (omega (arith, ltb-false (a / 2) k n)) ∙ sym n)
+
 or-none : (b : Bool) → (b || false) ≡ b
 or-none true = refl
 or-none false = refl
@@ -53,18 +60,18 @@ module _ (H : Matrix) (bs xs : List ℕ) (S : Setting) (word levels report : ℕ
       (twice-eqb (length bs) (length (H .list)) (H .m * H .rho) (whole .list ∙ ap (λ (l : List ℕ). 2 * length l) (sym entries)))
 
   -- the lengths of refusal 7
-  lengths-same : wrongBytes (H .n) (length xs) word levels report ≡ wrongLengths (length (samplesIn xs)) (H .n) word (bytesFor (H .n)) levels (H .n)
+  lengths-same : wrongBytes (H .n) (length xs) word levels report ≡ wrongLengths (length (samplesIn xs)) (H .n) word (bytesFor (H .n)) (levels / 2) (H .n)
   lengths-same =
-      rw (le-ltb report 8 (whole .room), four-eqb (length xs) (length (samplesIn xs)) (H .n) (whole .samples)) (or-none _)
+      rw (le-ltb report 8 (whole .room), four-eqb (length xs) (length (samplesIn xs)) (H .n) (whole .samples), half-ltb levels (H .n)) (or-none _)
 
   -- refusals 6 to 8
-  bytes-same : bytesVerdict (H .n) S xs word levels report ≡ samplesVerdict (H .n) S (samplesIn xs) word levels
+  bytes-same : bytesVerdict (H .n) S xs word levels report ≡ samplesVerdict (H .n) S (samplesIn xs) word (levels / 2)
   unfolding bytesVerdict samplesVerdict
   bytes-same = rw lengths-same
 
 -- of whole numbers it asks what iterative voting asks
 pub asks-same : (n m rho gamma : ℕ) (bs : List ℕ) (S : Setting) (xs : List ℕ) (word levels report : ℕ) → WholeBytes bs xs report
-    → faceVerdict (faceMatrix n m rho gamma bs) bs S xs word levels report ≡ iterativeVerdict (faceMatrix n m rho gamma bs) S (samplesIn xs) word levels
+    → faceVerdict (faceMatrix n m rho gamma bs) bs S xs word levels report ≡ iterativeVerdict (faceMatrix n m rho gamma bs) S (samplesIn xs) word (levels / 2)
 unfolding faceVerdict iterativeVerdict
 asks-same n m rho gamma bs S xs word levels report whole =
     let H : Matrix = faceMatrix n m rho gamma bs in
@@ -72,7 +79,7 @@ asks-same n m rho gamma bs S xs word levels report whole =
 
 -- and says what it says
 pub says-same : (n m rho gamma : ℕ) (bs : List ℕ) (S : Setting) (xs : List ℕ) (word levels report : ℕ) → WholeBytes bs xs report
-    → faceOf (faceMatrix n m rho gamma bs) bs S xs word levels report ≡ iterativeOf (faceMatrix n m rho gamma bs) S (samplesIn xs) word levels
+    → faceOf (faceMatrix n m rho gamma bs) bs S xs word levels report ≡ iterativeOf (faceMatrix n m rho gamma bs) S (samplesIn xs) word (levels / 2)
 unfolding faceOf faceReport iterativeOf
 says-same n m rho gamma bs S xs word levels report whole =
     let H : Matrix = faceMatrix n m rho gamma bs in
@@ -109,8 +116,8 @@ only-whole n m rho gamma bs S xs word levels report e =
     let d = passed (not (eqb (length bs) (2 * (m * rho)))) 2 0 _ (c .1) in
     let f = passed (not (settingFits S)) 6 0 _ (v .1) in
     let g = passed (wrongBytes n (length xs) word levels report) 7 0 _ (f .1) in
-    let t = wrongLengths (length xs) (4 * n) word (bytesFor n) levels n in
-    let l = lengths-fit (length xs) (4 * n) word (bytesFor n) levels n (or-left t (ltb report 8) (g .0)) in
+    let t = wrongLengths (length xs) (4 * n) word (bytesFor n) levels (2 * n) in
+    let l = lengths-fit (length xs) (4 * n) word (bytesFor n) levels (2 * n) (or-left t (ltb report 8) (g .0)) in
     record {
       list = whole-list (length bs) (length (entriesIn bs)) (m * rho) (eqb-true (length bs) (2 * (m * rho)) (not-false _ (d .0))) (length-entries bs);
       samples = whole-samples (length xs) (length (samplesIn xs)) n (l .0) (length-samples xs);

@@ -5,7 +5,7 @@
 -- Assumes nothing.
 use mathlib.Core.Path.{_≡_, sym, ap, _∙_}
 use mathlib.Core.List.{List}
-use Prim.Native.Nat.{ℕ}
+use Prim.Native.Nat.{ℕ, _/_}
 use lib.IntN.{ℤ, pos}
 use lib.ListN.{length, replicate, length-replicate}
 use Rattle.counting.specs.Paper.Lists.{over}
@@ -25,16 +25,16 @@ use Rattle.firmware.proofs.Iterative.{asks-same, says-same, face-is-ite
 
 module _ (n m rho gamma : ℕ) (bs : List ℕ) (S : Setting) (xs : List ℕ) (r : ℕ) (w w′ ls ls′ p p′ : List ℕ)
     (f : FacedAs (faceMatrix n m rho gamma bs) bs S xs r w w′ ls ls′ p p′) where
-  -- the matrix whose list the bytes are, and so many levels
+  -- the matrix whose list the bytes are, and as many levels as there is room for
   abbrev H : Matrix
   H = faceMatrix n m rho gamma bs
 
   abbrev room : List ℤ
-  room = replicate (length ls) (pos 0)
+  room = replicate (length ls / 2) (pos 0)
 
   module _ (e : faceVerdict (faceMatrix n m rho gamma bs) bs S xs (length w) (length ls) (length p) ≡ accepted) where
-    long : length room ≡ length ls
-    long = length-replicate {A = ℤ} (length ls) (pos 0)
+    long : length room ≡ length ls / 2
+    long = length-replicate {A = ℤ} (length ls / 2) (pos 0)
 
     -- iterative voting accepts the numbers
     accepts : iterativeVerdict H S (samplesIn xs) (length w) (length room) ≡ accepted

@@ -85,8 +85,8 @@ bytes-fits n S bs word levels report few =
     fits-when (not (settingFits S)) 6 _ (omega arith, omega arith)
     (λ y. fits-when (wrongBytes n (length bs) word levels report) 7 _ (omega arith, omega arith)
     (λ q.
-    let t = wrongLengths (length bs) (4 * n) word (bytesFor n) levels n in
-    let l = lengths-fit (length bs) (4 * n) word (bytesFor n) levels n (or-left t (ltb report 8) q) in
+    let t = wrongLengths (length bs) (4 * n) word (bytesFor n) levels (2 * n) in
+    let l = lengths-fit (length bs) (4 * n) word (bytesFor n) levels (2 * n) (or-left t (ltb report 8) q) in
     fits-at 8 (firstNotFinite (samplesIn bs)) (length (samplesIn bs)) accepted (omega arith, omega arith) (omega (arith, samples-n n bs (l .0))) tt))
 
 -- ---- the face's answers

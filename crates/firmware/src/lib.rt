@@ -1,5 +1,5 @@
 // The face for the tufting firmware: iterative voting as one C function over numbers and byte slices.
-// Rests on `firmware_decoding`, `firmware_asking`, `firmware_codes` and `matrix_check`. Document 02: card 3.
+// Rests on `firmware_decoding`, `firmware_asking`, `firmware_codes` and `matrix_check`. Document 02: cards 3 and 7.
 use firmware_asking::setting_by;
 use firmware_decoding::decode;
 use matrix_check::Shape;

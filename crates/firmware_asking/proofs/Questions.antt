@@ -75,11 +75,11 @@ module _ (n : ℕ) (S : Setting) (bytes word levels report : ℕ) where
 
   module _ (fits : settingFits S ≡ true) where
     -- refusal 7: the samples' bytes, the word or the levels
-    pub lent-buffers : wrongLengths bytes (4 * n) word (bytesFor n) levels n ≡ true → refused 7 0 ≡ lentVerdict n S bytes word levels report
+    pub lent-buffers : wrongLengths bytes (4 * n) word (bytesFor n) levels (2 * n) ≡ true → refused 7 0 ≡ lentVerdict n S bytes word levels report
     unfolding lentVerdict
     lent-buffers e = rw (fits, e)
 
-    module _ (lengths : wrongLengths bytes (4 * n) word (bytesFor n) levels n ≡ false) where
+    module _ (lengths : wrongLengths bytes (4 * n) word (bytesFor n) levels (2 * n) ≡ false) where
       -- refusal 7: the report
       pub lent-report : report < 8 → refused 7 0 ≡ lentVerdict n S bytes word levels report
       unfolding lentVerdict
@@ -96,9 +96,9 @@ pub lent-fits : (H : Matrix) (S : Setting) (bs : List ℕ) (word levels report :
 unfolding lentVerdict
 lent-fits H S bs word levels report a e =
     let x = passed (not (settingFits S)) 6 0 _ e in
-    let t = wrongLengths (length bs) (4 * H .n) word (bytesFor (H .n)) levels (H .n) in
+    let t = wrongLengths (length bs) (4 * H .n) word (bytesFor (H .n)) levels (2 * H .n) in
     let y = passed (t || ltb report 8) 7 0 accepted (x .1) in
-    let l = lengths-fit (length bs) (4 * H .n) word (bytesFor (H .n)) levels (H .n) (or-left t (ltb report 8) (y .0)) in
+    let l = lengths-fit (length bs) (4 * H .n) word (bytesFor (H .n)) levels (2 * H .n) (or-left t (ltb report 8) (y .0)) in
     record {
       matrix = a;
       setting = not-false (settingFits S) (x .0);

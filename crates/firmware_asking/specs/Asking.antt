@@ -32,5 +32,5 @@ pub record FaceLent (H : Matrix) (S : Setting) (xs : List ℕ) (word levels repo
   pub setting : settingFits S ≡ true
   pub bytes : length xs ≡ 4 * H .n
   pub room-word : bytesFor (H .n) ≤ word
-  pub room-levels : H .n ≤ levels
+  pub room-levels : 2 * H .n ≤ levels
   pub room-report : 8 ≤ report

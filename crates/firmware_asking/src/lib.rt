@@ -1,5 +1,5 @@
 // What the firmware's face asks before it reads the list or the samples, and the setting that it is lent.
-// Rests on `ffi_codes`, `byte_numbers`, `quantiser`, `matrix_check` and `answers`. Document 02: card 3.
+// Rests on `ffi_codes`, `byte_numbers`, `quantiser`, `matrix_check` and `answers`. Document 02: cards 3 and 7.
 use answers::Checked;
 use answers::Refusal;
 use ffi_codes::setting_of;
@@ -66,7 +66,7 @@ pub fn ask_lent(
         return Checked::Refused(Refusal::Setting);
     }
     let need = (n + 7) / 8;
-    if answers::wrong_lengths(bytes, 4 * n, word, need, levels, n) {
+    if answers::wrong_lengths(bytes, 4 * n, word, need, levels, 2 * n) {
         return Checked::Refused(Refusal::Buffer);
     }
     if report < 8 {

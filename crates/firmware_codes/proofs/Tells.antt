@@ -2,21 +2,22 @@
 --   result-tells       == the returned number tells decoded, failed, and each refusal with its place apart
 --   report-back        == rounds, failing, changed and the zero are read back from the report's bytes
 --   answer-tells       == with the report's bytes it tells the whole answer
---   level-back         == a level from -127 to 127 is read back from its byte
---   level-bytes-back   == there are as many bytes as levels, and the level at each place is read back from the byte there
+--   level-back         == a level from -2,047 to 2,047 is read back from its number
+--   level-bytes-back   == there are two bytes a level, and the level at each place is read back from the two there
 -- Assumes nothing.
 use mathlib.Core.Path.{_≡_, refl, sym, ap, ap₂, _∙_}
 use mathlib.Core.Bool.{Bool, cond}
 use mathlib.Core.List.{List, [], _∷_}
-use Prim.Native.Nat.{ℕ, _+_, _-_, _*_, _/_, _%_, _≤_, _<_}
+use Prim.Native.Nat.{ℕ, _+_, _-_, _*_, _/_, _%_, _<_}
 use native.Mathlib.Omega.{arith}
 use borrow.Author.Tests.{lt-ltb, le-ltb}
-use lib.IntN.{ℤ, pos, negsuc, natAbs}
+use lib.IntN.{ℤ, pos, negsuc}
 use lib.ListN.{length, getD}
-use Rattle.counting.proofs.Writes.{length-listed, getD-listed}
+use Rattle.counting.proofs.Joined.{getD-rows}
 use Rattle.answers.specs.Paper.Answers.{refusal, report, count, stored, acceptance}
 use Rattle.byte_numbers.specs.Paper.Numbers.{number16}
-use Rattle.firmware_codes.specs.Paper.Codes.{levelByte, levelBytes, levelIn}
+use Rattle.firmware_codes.specs.Paper.Codes.{levelNumber, levelBytes, levelIn}
+use Rattle.firmware_codes.proofs.Levels.{bytesAt, bytes-long}
 use Rattle.firmware_codes.specs.Paper.Claims.{ResultTells, AnswerTells, ReportBack, LevelBack, LevelBytesBack}
 
 -- ---- the returned number
@@ -81,23 +82,25 @@ answer-tells acceptance t p q e b = absurd p
 
 -- ---- the levels
 
--- a level from -127 to 127 is read back from its byte
+-- a level from -2,047 to 2,047 is read back from its number
 pub level-back : LevelBack
-level-back (pos k) h = ap (λ (t : Bool). cond t (pos k) (negsuc (255 - k))) (lt-ltb k 128 (omega arith))
+level-back (pos k) h = ap (λ (t : Bool). cond t (pos k) (negsuc (65535 - k))) (lt-ltb k 32768 (omega arith))
 level-back (negsuc k) h =
-    ap (λ (t : Bool). cond t (pos (255 - k)) (negsuc (255 - (255 - k)))) (le-ltb (255 - k) 128 (omega arith)) ∙ ap negsuc (omega arith)
+    ap (λ (t : Bool). cond t (pos (65535 - k)) (negsuc (65535 - (65535 - k)))) (le-ltb (65535 - k) 32768 (omega arith)) ∙ ap negsuc (omega arith)
 
--- as many bytes as levels
-bytes-long : (ls : List ℤ) → length (levelBytes ls) ≡ length ls
-unfolding levelBytes
-bytes-long ls = length-listed (length ls) (λ j. levelByte (getD ls j (pos 0)))
+-- the number that stands in the two bytes at each place
+number-at : (ls : List ℤ) (j : ℕ) → j < length ls → number16 (levelBytes ls) (2 * j) ≡ levelNumber (getD ls j (pos 0))
+unfolding levelBytes number16
+number-at ls j l =
+    let at : (q : ℕ) → q < 2 → getD (levelBytes ls) (j * 2 + q) 0 ≡ getD (bytesAt ls j) q 0 =
+    λ q m. getD-rows (length ls) 2 (bytesAt ls) 0 (λ i b. refl) j q l m in
+    let low : 2 * j ≡ j * 2 + 0 = omega arith in
+    let high : 2 * j + 1 ≡ j * 2 + 1 = omega arith in
+    ap₂ (λ (a b : ℕ). a + 256 * b) (ap (λ (p : ℕ). getD (levelBytes ls) p 0) low ∙ at 0 (omega arith))
+    (ap (λ (p : ℕ). getD (levelBytes ls) p 0) high ∙ at 1 (omega arith))
+    ∙ two-bytes (levelNumber (getD ls j (pos 0)))
 
--- the level at each place
-bytes-back : (ls : List ℤ) (j : ℕ) → j < length ls → natAbs (getD ls j (pos 0)) ≤ 127 → levelIn (getD (levelBytes ls) j 0) ≡ getD ls j (pos 0)
-unfolding levelBytes
-bytes-back ls j l h =
-    ap levelIn (getD-listed (length ls) (λ i. levelByte (getD ls i (pos 0))) j 0 l) ∙ level-back (getD ls j (pos 0)) h
-
--- there are as many bytes as levels, and the level at each place is read back from the byte there
+-- there are two bytes a level, and the level at each place is read back from the two there
 pub level-bytes-back : (ls : List ℤ) → LevelBytesBack ls
-level-bytes-back ls = record { long = bytes-long ls; back = bytes-back ls }
+level-bytes-back ls =
+    record { long = bytes-long ls; back = λ j l h. ap levelIn (number-at ls j l) ∙ level-back (getD ls j (pos 0)) h }

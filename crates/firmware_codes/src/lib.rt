@@ -1,5 +1,5 @@
 // What leaves the firmware's face: the returned number, the report's eight bytes, the levels as bytes.
-// Rests on `answers`, `counting`, `byte_numbers` and, for the cells of levels, `quantiser_levels`. Document 02: card 3.
+// Rests on `answers`, `counting`, `byte_numbers` and, for the cells of levels, `quantiser_levels`. Document 02: cards 3 and 7.
 use answers::Answer;
 use answers::Refusal;
 use answers::Report;
@@ -9,7 +9,7 @@ ghost use Prim.Native.Nat.{_+_, _*_, _/_, _%_, _≤_};
 ghost use lib.ListN.{length};
 ghost use Rattle.counting.specs.Paper.Lists.{over};
 ghost use Rattle.answers.specs.Paper.Enums.{numberOf, placeOf, reportOf, saidOf};
-ghost use Rattle.firmware_codes.specs.Paper.Codes.{resultOf, reportBytes, levelByte, levelBytes};
+ghost use Rattle.firmware_codes.specs.Paper.Codes.{resultOf, reportBytes, levelNumber, levelBytes};
 
 // A refusal: its number and its place.
 fn refusal_result(f: Refusal) -> u32
@@ -71,25 +71,25 @@ pub fn report_out(p: Report, bytes: &mut [u8])
     copy_front(&from, bytes);
 }
 
-// A level as one byte in two's complement.
-fn level_byte(l: Cell) -> u8
-    ensures { λ r. ⌜ r ≡ levelByte l ⌝ }
+// A level as a number of 16 bits in two's complement.
+fn level_number(l: Cell) -> u16
+    ensures { λ r. ⌜ r ≡ levelNumber l ⌝ }
 {
-    let s = l as i16;
+    let s = l as i32;
     if s < 0 {
-        return (s + 256) as u8;
+        return (s + 65536) as u16;
     }
-    s as u8
+    s as u16
 }
 
-// The levels as bytes at the front of the buffer. Only this repository's crates call it, with room for them.
+// The levels at the front of the buffer, two bytes each, low byte first. Only this repository's crates call it, with room for them.
 pub fn levels_out(levels: &[Cell], bytes: &mut [u8])
-    requires { ⌜ length (now levels) ≤ length (now bytes) ⌝ }
+    requires { ⌜ 2 * length (now levels) ≤ length (now bytes) ⌝ }
     ensures { λ _. ⌜ now (bytes .exit) ≡ over (levelBytes (now (levels .entry))) (now (bytes .entry)) ⌝ }
 {
     let mut j = 0;
     while j < levels.len() {
-        bytes[j] = level_byte(levels[j]);
+        byte_numbers::put16(level_number(levels[j]), 2 * j, bytes);
         j += 1;
     }
 }

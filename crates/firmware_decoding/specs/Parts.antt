@@ -4,7 +4,7 @@
 --   Answered v H S xs ..     == what a part says and leaves that asks v
 --   ListAnswered H S xs ..   == the same of the part that begins with the matrix check
 -- Assumes nothing.
-use Prim.Native.Nat.{ℕ, _≤_}
+use Prim.Native.Nat.{ℕ, _*_, _≤_}
 use mathlib.Core.Path.{_≡_}
 use mathlib.Core.Bool.{true}
 use mathlib.Core.List.{List}
@@ -30,7 +30,7 @@ pub record OutLent (H : Matrix) (S : Setting) (fs : List Float) (word levels rep
   pub samples : length fs ≡ H .n
   pub each-finite : firstNotFinite fs ≡ length fs
   pub room-word : bytesFor (H .n) ≤ word
-  pub room-levels : H .n ≤ levels
+  pub room-levels : 2 * H .n ≤ levels
   pub room-report : 8 ≤ report
 
 -- the word w becomes w′, the levels ls become ls′, the report p becomes p′

@@ -1,5 +1,5 @@
 // The core of the firmware's face: list and samples read from bytes, every refusal in its order, the decoding, and what leaves as bytes.
-// Rests on `firmware_asking`, `firmware_codes`, `byte_numbers`, `iterative_core`, `matrix_index`, `matrix_check` and `answers`. Document 02: card 3.
+// Rests on `firmware_asking`, `firmware_codes`, `byte_numbers`, `iterative_core`, `matrix_index`, `matrix_check` and `answers`. Document 02: cards 3 and 7.
 use answers::Answer;
 use answers::Checked;
 use answers::Refusal;

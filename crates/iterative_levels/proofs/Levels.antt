@@ -5,6 +5,8 @@
 --   back-biased                   == the number of the level made of a number is that number
 --   next-biased                   == the number of R + E cut to -L and L, where E is a - b
 --   next-zero, next-one           == the next number of a bit 0 and of a bit 1 is that of R + E cut to -L and L
+--   chosen-most                   == either of two numbers is at most what both are
+--   next-chosen                   == sum and difference of what a test chooses are chosen by it
 --   above-biased                  == the number lies above the middle exactly where the level is above 0
 --   above-bit, above-middle-bit   == either test gives a bit
 -- Assumes nothing.
@@ -75,6 +77,17 @@ unfolding nextLevel
 next-one weight L v z r e h =
     ap (λ (t : Bool). cond t (min (2 * L) (biased L r + 2 * v - weight)) (min (2 * L) (biased L r + weight - 2 * v))) (ne-eqb z 0 (λ q. omega arith))
     ∙ sym (next-biased L weight (2 * v) r h)
+
+-- either of two numbers is at most what both are
+pub chosen-most : (t : Bool) (a b most : ℕ) → a ≤ most → b ≤ most → cond t a b ≤ most
+chosen-most true a b most h l = h
+chosen-most false a b most h l = l
+
+-- sum and difference of what a test chooses are chosen by it
+pub next-chosen : (t : Bool) (ceiling x a b : ℕ)
+    → min ceiling (x + cond t a b - cond t b a) ≡ cond t (min ceiling (x + a - b)) (min ceiling (x + b - a))
+next-chosen true ceiling x a b = refl
+next-chosen false ceiling x a b = refl
 
 -- ---- the bit
 

@@ -1,11 +1,11 @@
 -- A level R from -L to L kept as the number R + L, and one pass over an array of such levels.
 -- Cutting at -L is then the subtraction of numbers, which stops at 0, and the bit is 1 above the middle L.
---   mostKept                   == the largest number that a kept level's cell holds
+--   mostKept                   == the largest number that a level is kept as
 --   biased L R                 == R + L
 --   unbiased L x j             == the level that cell j of the array x stands for
 --   nextLevel weight c x z v   == the next level, kept so, of a bit z with v failing checks of its `weight`
 --   aboveMiddle L x            == 1 where x is above the middle, else 0
---   Bounds                     == sizes small enough for the arrays
+--   Bounds                     == sizes small enough for the arrays, and levels up to the ceiling
 --   Moved                      == bits and levels after the first n of them are brought to the next round
 --   Narrow                     == weights that fit in eight bits
 --   Bounded, Biased            == levels within their range, and an array that keeps them so
@@ -22,9 +22,9 @@ use Rattle.counting.specs.Paper.Sum.{flag}
 use Rattle.counting.specs.Places.{at}
 use Rattle.quantiser_levels.specs.Paper.Samples.{mostLevel}
 
--- a kept level is a number of eight bits
+-- 2L at the widest
 abbrev pub mostKept : ℕ
-mostKept = 255
+mostKept = 4094
 
 -- R + L, for R from -L on
 abbrev pub biased : ℕ → ℤ → ℕ
@@ -42,9 +42,10 @@ nextLevel weight ceiling x z v = cond (eqb z 0) (min ceiling (x + 2 * v - weight
 unfoldable pub aboveMiddle : ℕ → ℕ → ℕ
 aboveMiddle L x = flag (ltb L x)
 
-pub record Bounds (n ceiling : ℕ) : Type 0 where
+pub record Bounds (n ceiling : ℕ) (x : List ℕ) : Type 0 where
   pub columns : n ≤ 1023
   pub levels : ceiling ≤ mostKept
+  pub within : (j : ℕ) → j < n → at x j ≤ ceiling
 
 -- the first n bits z and levels x become z′ and x′ by the votes v, bit j having w j checks; the others stay
 pub record Moved (v : List ℕ) (w : ℕ → ℕ) (n L ceiling : ℕ) (z x z′ x′ : List ℕ) : Type 0 where

@@ -29,7 +29,7 @@ fn round(
     ensures { λ r. ⌜ Rounded (matrixOf shape (now (list .entry))) middle (now (votes .entry)) (now (bits .entry)) (now (levels .entry)) (now (bits .exit)) (now (levels .exit)) (now (parity .entry)) (now (parity .exit)) (now (votes .exit)) r ⌝ }
 {
     let n = shape.n as usize;
-    let ceiling = 2 * (middle as u16);
+    let ceiling = 2 * middle;
     let before = *bits;
     iterative_levels::update(votes, weights, n, middle, ceiling, bits, levels);
     iterative_tally::retally(shape, list, index, &before, bits, parity, votes)

@@ -8,13 +8,13 @@ use Prim.Native.Nat.{ℕ, zero, suc, _^_, _<_}
 use native.Mathlib.Nat.{lt-of-le-of-lt, le-suc}
 use lib.IntN.{ℤ, pos, negℤ, _-ℤ_, +ℤ-idl}
 use lib.Pow.{pow-pos}
-use mir.Syntax.{Width, w8}
+use mir.Syntax.{Width, w16}
 use mir.Val.{SFits, toZ, ofZ, hbits}
 use mir.ValLaws.{toZ-pos, toZ-ofZ}
 
 -- the width of `Cell`
 abbrev pub cell : Width
-cell = w8
+cell = w16
 
 module _ (w : Width) where
   neg-fits : (n : ℕ) → n < 2 ^ hbits w → SFits w (negℤ (pos n))

@@ -8,7 +8,7 @@ ghost use Rattle.quantiser_levels.specs.Paper.Samples.{mostBits, largest
 ghost use Rattle.quantiser_levels.specs.Scale.{levelBy, Digits, Apart, Narrow};
 
 // A stored level.
-pub type Cell = i8;
+pub type Cell = i16;
 
 // A sample half-way between two levels goes away from zero at 0, and toward zero at 1.
 const TIE: u64 = 0;
@@ -126,10 +126,9 @@ pub fn level_by(s: Scale, x: f32) -> Cell
 }
 
 // L, the largest level of so many bits. Only this repository's crates call it, with a width in range.
-pub fn largest_of(bits: u16) -> u8
+pub fn largest_of(bits: u16) -> u16
     requires { ⌜ (2 ≤ bits) × (bits ≤ mostBits) ⌝ }
     ensures { λ r. ⌜ r ≡ largest bits ⌝ }
 {
-    let top = (1u16 << (bits - 1)) - 1;
-    top as u8
+    (1u16 << (bits - 1)) - 1
 }

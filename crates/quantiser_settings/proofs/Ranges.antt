@@ -1,7 +1,7 @@
 -- Laws for the crates above: refusal 6 in plain words, the bounds of levels and of hard bits.
---   ranges-read, read-ranges     == the width and the limit are in range exactly where 2 ≤ b ≤ 8 and the limit is at most 255
+--   ranges-read, read-ranges     == the width and the limit are in range exactly where 2 ≤ b ≤ 12 and the limit is at most 255
 --   fits-reads, reads-fits       == a setting is in range exactly where each of its numbers is
---   largest-some, largest-most   == the largest level is from 1 to 127
+--   largest-some, largest-most   == the largest level is from 1 to 2,047
 --   level-bound                  == no level lies beyond the largest
 --   all-finite                   == where the search for a sample that is not finite finds none, every sample is finite
 --   hard-bit, hard-bit-at        == a hard bit is a bit
@@ -25,7 +25,7 @@ use Rattle.quantiser_settings.specs.Paper.Ranges.{InRange}
 
 -- ---- refusal 6
 
--- the width and the limit are in range exactly where 2 ≤ b ≤ 8 and the limit is at most 255
+-- the width and the limit are in range exactly where 2 ≤ b ≤ 12 and the limit is at most 255
 pub ranges-read : (b limit : ℕ) → rangesFit b limit ≡ true → (2 ≤ b) × (b ≤ mostBits) × (limit ≤ 255)
 ranges-read b limit e =
     let e₁ = and-right (leb 2 b) (leb b mostBits && leb limit 255) e in (
@@ -58,7 +58,7 @@ reads-fits S r =
 
 -- ---- levels
 
--- the largest level of 2 to 8 bits has at most 7 bits and is not 0
+-- the largest level of 2 to 12 bits has at most 11 bits and is not 0
 pub largest-some : (b : ℕ) → 2 ≤ b → 0 < largest b
 largest-some b h =
     let p : 2 ^ 1 ≤ 2 ^ (b - 1) = pow-mono {i = 1} (omega arith) in

@@ -11,7 +11,7 @@ ghost use Rattle.quantiser_settings.specs.Paper.Settings.{settingOf, flo
 ghost use Rattle.quantiser_settings.specs.Gain.{gainBy};
 
 // The most bits that a level may have.
-pub const MOST_BITS: u16 = 8;
+pub const MOST_BITS: u16 = 12;
 
 // The step: a level step or a full scale.
 pub enum Step {

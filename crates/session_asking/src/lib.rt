@@ -81,19 +81,19 @@ fn sizes_differ(shape: Shape, session: Session) -> bool
     shape.gamma != gamma
 }
 
-// The magnitude of a level. That of -128 fits no i8.
-fn magnitude(r: Cell) -> u8
+// The magnitude of a level. That of -32,768 fits no cell.
+fn magnitude(r: Cell) -> u16
     ensures { λ x. ⌜ x ≡ natAbs r ⌝ }
 {
-    let wide = r as i16;
+    let wide = r as i32;
     if wide < 0 {
-        return (0 - wide) as u8;
+        return (0 - wide) as u16;
     }
-    wide as u8
+    wide as u16
 }
 
 // Whether one of the first n levels lies beyond ±L.
-fn any_far(levels: &[Cell], n: usize, middle: u8) -> bool
+fn any_far(levels: &[Cell], n: usize, middle: u16) -> bool
     requires { ⌜ n ≤ length (now levels) ⌝ }
     ensures { λ r. ⌜ r ≡ anyBelow (far middle (now (levels .entry))) n ⌝ }
 {
@@ -109,7 +109,7 @@ fn any_far(levels: &[Cell], n: usize, middle: u8) -> bool
 }
 
 // Refusal 23: a spare place set in the word, or one of the first n levels beyond ±L.
-fn is_beyond(n: usize, middle: u8, word: &[u8], levels: &[Cell]) -> bool
+fn is_beyond(n: usize, middle: u16, word: &[u8], levels: &[Cell]) -> bool
     requires { ⌜ (n ≤ 1023) × (bytesFor n ≤ length (now word)) × (n ≤ length (now levels)) ⌝ }
     ensures { λ r. ⌜ r ≡ beyondIn n middle (now (word .entry)) (now (levels .entry)) ⌝ }
 {

@@ -1,4 +1,5 @@
 -- One round on a packed word and levels, by the arrays that it is done in.
+--   lent-bounds       == the levels lent, kept as numbers, are in the bounds of a round
 --   next-word         == the bits after the round are a word
 --   next-restorable   == and its levels can be written back
 --   round-left        == what is packed, stored and counted of them is what the round leaves
@@ -7,7 +8,8 @@ use mathlib.Core.Path.{_≡_, ap, _∙_}
 use mathlib.Core.List.{List}
 use Prim.Native.Nat.{ℕ, _*_}
 use native.Mathlib.Omega.{arith}
-use lib.IntN.{ℤ}
+use lib.IntN.{ℤ, pos}
+use lib.ListN.{getD}
 use Rattle.counting.specs.Paper.Lists.{listed, over}
 use Rattle.counting.specs.Places.{at}
 use Rattle.counting.proofs.Writes.{listed-cong}
@@ -17,7 +19,7 @@ use Rattle.packed_word.proofs.Packed.{bit-bit, pack-cong}
 use Rattle.matrix.specs.Paper.Code.{Matrix, Word, weight, failing}
 use Rattle.matrix.proofs.Rows.{failing-cong}
 use Rattle.majority_votes.specs.Tallies.{Tallied}
-use Rattle.iterative_levels.specs.Levels.{unbiased, Moved, Biased, Restorable}
+use Rattle.iterative_levels.specs.Levels.{unbiased, Bounds, Moved, Biased, Restorable}
 use Rattle.iterative_levels.proofs.Levels.{biased-le}
 use Rattle.iterative_rounds.specs.Paper.Rounds.{State, roundOf}
 use Rattle.iterative_rounds.specs.Alike.{Alike}
@@ -26,6 +28,16 @@ use Rattle.iterative_rounds.proofs.States.{holds-word, round-holds}
 use Rattle.iterative_rounds.proofs.Runs.{holds-alike}
 use Rattle.session.specs.Paper.Steps.{stateIn}
 use Rattle.session.specs.RoundParts.{RoundLent, RoundLeft}
+
+-- the levels lent, kept as numbers, are in the bounds of a round
+pub lent-bounds : (H : Matrix) (L : ℕ) (word : List ℕ) (levels : List ℤ) (cells kept : List ℕ) → RoundLent H L word levels
+    → Biased (H .n) L levels cells kept → Bounds (H .n) (2 * L) kept
+lent-bounds H L word levels cells kept p b =
+    record {
+      columns = p .matrix .sizes .n-most;
+      levels = omega (arith, p .largest);
+      within = λ j l. omega (arith, b .each j l, biased-le L (getD levels j (pos 0)) (p .within j l));
+    }
 
 module _ (H : Matrix) (L : ℕ) (word : List ℕ) (levels : List ℤ) (p : RoundLent H L word levels) (zeros bits cells kept votes : List ℕ) (f : ℕ)
     (u : Unpacked (H .n) word zeros bits) (b : Biased (H .n) L levels cells kept) (t : Tallied H (at bits) votes f) where

@@ -10,13 +10,12 @@ use session_record::Course;
 use session_record::Session;
 use session_record::Turn;
 ghost use mathlib.Core.Path.{_≡_};
-ghost use Prim.Native.Nat.{_*_, _≤_};
+ghost use Prim.Native.Nat.{_*_};
 ghost use lib.ListN.{length};
 ghost use Rattle.matrix.specs.Paper.Code.{weight};
 ghost use Rattle.matrix.specs.Paper.PlainCheck.{Accepted};
 ghost use Rattle.matrix.specs.Paper.Shapes.{matrixOf};
-ghost use Rattle.quantiser_levels.specs.Paper.Samples.{mostLevel};
-ghost use Rattle.iterative_levels.specs.Levels.{Moved};
+ghost use Rattle.iterative_levels.specs.Levels.{Bounds, Moved};
 ghost use Rattle.session_asking.specs.Paper.PlainCalls.{Steppable};
 ghost use Rattle.session_asking.specs.Paper.Asked.{heldOf};
 ghost use Rattle.session.specs.Paper.Steps.{steppedLeft, stepOf};
@@ -32,11 +31,11 @@ fn move_levels(
     bits: &mut [u8; 1023],
     kept: &mut [Kept; 1023],
 )
-    requires { ⌜ Accepted (matrixOf shape (now list)) × (middle ≤ mostLevel) × (length (now bits) ≡ 1023) × (length (now kept) ≡ 1023) ⌝ }
+    requires { ⌜ Accepted (matrixOf shape (now list)) × Bounds (shape .n) (2 * middle) (now kept) × (length (now bits) ≡ 1023) × (length (now kept) ≡ 1023) ⌝ }
     ensures { λ _. ⌜ Moved (now (votes .entry)) (weight (matrixOf shape (now (list .entry)))) (shape .n) middle (2 * middle) (now (bits .entry)) (now (kept .entry)) (now (bits .exit)) (now (kept .exit)) ⌝ }
 {
     let n = shape.n as usize;
-    let ceiling = 2 * (middle as u16);
+    let ceiling = 2 * middle;
     let mut wide = [0u16; 1023];
     let mut weights = [0u8; 1023];
     matrix_degrees::weigh(shape, list, &mut wide);

@@ -17,9 +17,9 @@ use Rattle.counting.specs.Paper.Joined.{joined}
 use Rattle.counting.proofs.Sums.{sum-const}
 use Rattle.counting.proofs.Joined.{length-joined}
 use Rattle.byte_numbers.specs.Paper.Numbers.{bytes16}
+use Rattle.byte_numbers.proofs.Joining.{sets-none, sets-next}
 use Rattle.matrix.specs.Paper.Code.{Matrix, entry}
 use Rattle.sheet_store.specs.Storing.{shiftBytes, rowShifts}
-use Rattle.sheet_store.proofs.Joining.{sets-none, sets-next}
 
 module _ (H : Matrix) (Z r p : ℕ) (old : List ℕ) where
   -- no shift of a block row is written yet

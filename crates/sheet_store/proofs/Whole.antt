@@ -18,9 +18,10 @@ use Rattle.counting.proofs.Stores.{sets-append}
 use Rattle.packed_word.specs.Paper.Packed.{bytesFor, pack}
 use Rattle.packed_word.proofs.Packed.{length-pack}
 use Rattle.matrix.specs.Paper.Code.{Matrix}
+use Rattle.byte_numbers.proofs.Joining.{sets-over}
 use Rattle.sheet.specs.Paper.MatrixSheet.{inBlock, sheetOf}
 use Rattle.sheet_store.specs.Storing.{headBytes, rowShifts}
-use Rattle.sheet_store.proofs.Joining.{sets-part, sets-over}
+use Rattle.sheet_store.proofs.Joining.{sets-part}
 
 -- the map of the largest sizes has 1,046,529 places
 pub few-places : (m n Z : ℕ) → m ≤ 1023 → n ≤ 1023 → m / Z * (n / Z) ≤ 1046529

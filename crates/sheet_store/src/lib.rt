@@ -1,5 +1,5 @@
 // Writing the sheet of a matrix: its heading, its map of set blocks, its shifts.
-// Rests on `sheet`, `matrix_check`, `matrix` and `packed_word`. Document 02: card 5.
+// Rests on `sheet`, `matrix_check`, `matrix`, `packed_word` and `byte_numbers`. Document 02: card 5.
 use matrix_check::Shape;
 ghost use Prim.Native.Nat.{ℕ, _+_, _*_, _/_, _≤_, _<_};
 ghost use mathlib.Core.Path.{_≡_};
@@ -10,30 +10,20 @@ ghost use lib.Seq.{sets};
 ghost use Rattle.counting.specs.Paper.Joined.{joined};
 ghost use Rattle.counting.specs.Paper.Lists.{over};
 ghost use Rattle.packed_word.specs.Paper.Packed.{bytesFor, pack};
-ghost use Rattle.byte_numbers.specs.Paper.Numbers.{bytes16};
 ghost use Rattle.matrix.specs.Paper.PlainCheck.{Accepted};
 ghost use Rattle.matrix.specs.Paper.Shapes.{matrixOf};
 ghost use Rattle.sheet.specs.Paper.MatrixSheet.{inBlock, sheetOf, describes};
 ghost use Rattle.sheet.specs.Parts.{Grid};
 ghost use Rattle.sheet_store.specs.Storing.{headBytes, rowShifts, Marked};
 
-// A 16-bit number at byte p, low byte first.
-fn put16(x: u16, p: usize, bytes: &mut [u8])
-    requires { ⌜ p + 1 < length (now bytes) ⌝ }
-    ensures { λ _. ⌜ now (bytes .exit) ≡ sets (now (bytes .entry)) p (bytes16 x) ⌝ }
-{
-    bytes[p] = (x % 256) as u8;
-    bytes[p + 1] = (x / 256) as u8;
-}
-
 // J, K and Z, the first six bytes.
 fn put_heading(rows: u16, columns: u16, size: u16, sheet: &mut [u8])
     requires { ⌜ 6 ≤ length (now sheet) ⌝ }
     ensures { λ _. ⌜ now (sheet .exit) ≡ sets (now (sheet .entry)) 0 (headBytes rows columns size) ⌝ }
 {
-    put16(rows, 0, sheet);
-    put16(columns, 2, sheet);
-    put16(size, 4, sheet);
+    byte_numbers::put16(rows, 0, sheet);
+    byte_numbers::put16(columns, 2, sheet);
+    byte_numbers::put16(size, 4, sheet);
 }
 
 // Sets all bytes to 0.
@@ -85,7 +75,7 @@ fn put_row_shifts(shape: Shape, list: &[u16], z: usize, r: usize, p: usize, shee
     let mut k = 0;
     while k < rho {
         let e = matrix::column(shape, list, r * z, k);
-        put16((e % z) as u16, p + 2 * k, sheet);
+        byte_numbers::put16((e % z) as u16, p + 2 * k, sheet);
         k += 1;
     }
 }

@@ -47,7 +47,7 @@ pub struct Block {
 }
 
 impl Block {
-    /// With buffers of exactly the needed bytes.
+    /// With buffers of exactly the needed bytes: two for each level.
     pub fn new(setting: &Setting, samples: &[f32]) -> Block {
         Block {
             bits: setting.bits,
@@ -56,7 +56,7 @@ impl Block {
             step: setting.step.to_bits(),
             samples: stream::block(samples),
             for_word: bytes_for(samples.len()),
-            for_levels: samples.len(),
+            for_levels: 2 * samples.len(),
             for_report: REPORT,
         }
     }
@@ -136,9 +136,10 @@ impl Written {
         buffers == (&other.word, &other.levels, &other.report)
     }
 
-    /// The levels as signed numbers.
-    pub fn signed(&self) -> Vec<i8> {
-        self.levels.iter().map(|&byte| byte as i8).collect()
+    /// The levels as signed numbers, two bytes each. A last byte without a second one is no level.
+    pub fn signed(&self) -> Vec<i16> {
+        let level = |pair: &[u8]| i16::from_le_bytes([pair[0], pair[1]]);
+        self.levels.chunks_exact(2).map(level).collect()
     }
 }
 

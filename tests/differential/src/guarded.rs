@@ -29,6 +29,16 @@ impl Cell for i8 {
     }
 }
 
+impl Cell for i16 {
+    fn by_chance(random: &mut Random) -> i16 {
+        level_by_chance(random)
+    }
+
+    fn same(self, other: i16) -> bool {
+        self == other
+    }
+}
+
 impl Cell for u16 {
     fn by_chance(random: &mut Random) -> u16 {
         random.byte().into()
@@ -46,6 +56,15 @@ impl Cell for f32 {
 
     fn same(self, other: f32) -> bool {
         self.to_bits() == other.to_bits()
+    }
+}
+
+/// Any number of sixteen bits, often one of eight.
+pub fn level_by_chance(random: &mut Random) -> i16 {
+    let number = random.number();
+    match number % 2 {
+        0 => i16::from((number >> 56) as i8),
+        _ => (number >> 48) as i16,
     }
 }
 

@@ -1,7 +1,7 @@
 //! The index of a matrix, and voting that is lent one, on both sides.
 
 use crate::samples::described_samples;
-use crate::{Guarded, Left, Subject};
+use crate::{level_by_chance, Guarded, Left, Subject};
 use ffi_face::{LentMatrix, Packed};
 use generator::{settings, Random};
 use reference::{pack, Answer, Matrix, Refusal, Setting};
@@ -16,15 +16,15 @@ pub struct Indexed {
 #[derive(Clone)]
 struct Buffers {
     word: Vec<u8>,
-    levels: Vec<i8>,
+    levels: Vec<i16>,
 }
 
 impl Buffers {
     fn by_chance(for_word: usize, for_levels: usize, random: &mut Random) -> Buffers {
-        let levels = random.bytes(for_levels).into_iter();
+        let levels = (0..for_levels).map(|_| level_by_chance(random)).collect();
         Buffers {
             word: random.bytes(for_word),
-            levels: levels.map(|byte| byte as i8).collect(),
+            levels,
         }
     }
 
@@ -125,7 +125,7 @@ impl Indexed {
         index: &[u16],
         before: &Buffers,
         random: &mut Random,
-        call: impl FnOnce(LentMatrix, &[u16], &mut [u8], &mut [i8]) -> Packed,
+        call: impl FnOnce(LentMatrix, &[u16], &mut [u8], &mut [i16]) -> Packed,
     ) -> Left {
         let lent = Guarded::new(index, random);
         let mut word = Guarded::new(&before.word, random);

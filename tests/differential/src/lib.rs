@@ -17,8 +17,10 @@ mod session;
 #[cfg(feature = "sheet")]
 mod sheets;
 mod subject;
+#[cfg(feature = "samples")]
+mod widths;
 
-pub use guarded::{Cell, Guarded};
+pub use guarded::{level_by_chance, Cell, Guarded};
 #[cfg(feature = "index")]
 pub use indexed::Indexed;
 #[cfg(feature = "samples")]
@@ -28,6 +30,8 @@ pub use session::{levels_by_chance, Lent, Opened, WORKING};
 #[cfg(feature = "sheet")]
 pub use sheets::{sheet_refusal, store_refusal, LentSheet, Sheeted};
 pub use subject::{refusal, Subject};
+#[cfg(feature = "samples")]
+pub use widths::{narrow, widen};
 
 use generator::Random;
 

@@ -5,6 +5,13 @@ use generator::codes::Code;
 use generator::{patterns, settings, Codewords, Random};
 use reference::{hard_bit, largest_level, level, Setting};
 
+/// The largest limit that a setting may have.
+pub const LARGEST_LIMIT: usize = 255;
+
+/// The widths beyond 8 bits. From the second on, some numbers of wrong bits ask for more rounds than
+/// a limit allows.
+pub const FINER: [u16; 4] = [9, 10, 11, 12];
+
 /// A limit that is enough for every code and every number of wrong bits: L / 2 + 1.
 pub fn enough(bits: u16) -> usize {
     largest_level(bits) as usize / 2 + 1
@@ -26,7 +33,7 @@ pub fn some_setting(bits: u16, kind: u16, random: &mut Random) -> Setting {
     }
 }
 
-/// Every width with both kinds of step.
+/// Every width up to 8 with both kinds of step: with more bits the rounds may be more than a limit allows.
 pub fn all_settings(random: &mut Random) -> Vec<Setting> {
     (2..=8)
         .flat_map(|bits| [0, 1].map(|kind| some_setting(bits, kind, random)))
@@ -142,6 +149,18 @@ impl Source {
         blocks
     }
 
+    /// Those of them with wrong places whose bound is a limit that a setting may have.
+    pub fn blocks_in_time(
+        &self,
+        setting: &Setting,
+        random: &mut Random,
+    ) -> Vec<(Change, Vec<f32>)> {
+        let mut blocks = self.blocks(setting, random);
+        let limits = 1..=LARGEST_LIMIT;
+        blocks.retain(|(change, _)| limits.contains(&change.bound(setting.bits)));
+        blocks
+    }
+
     /// One block by chance, most often with half of gamma wrong or with the worst strength.
     pub fn some_block(&self, setting: &Setting, random: &mut Random) -> (Change, Vec<f32>) {
         let size = random.below(2 * self.half() + 1).min(self.half());
@@ -172,6 +191,29 @@ impl Seen {
             (changed, wrong) if changed < wrong => self.some += 1,
             _ => self.all += 1,
         }
+    }
+}
+
+/// Of the blocks with finer levels, for each width: how many were met, how many of them took all the
+/// rounds of their bound, and the most wrong places of one.
+#[derive(Debug, Default)]
+pub struct Finer {
+    pub blocks: [usize; FINER.len()],
+    pub taking_all: [usize; FINER.len()],
+    pub most_wrong: [usize; FINER.len()],
+}
+
+impl Finer {
+    pub fn count(&mut self, change: &Change, bits: u16, rounds: usize) {
+        let at = usize::from(bits - FINER[0]);
+        self.blocks[at] += 1;
+        self.taking_all[at] += usize::from(rounds == change.bound(bits));
+        self.most_wrong[at] = self.most_wrong[at].max(change.wrong.len());
+    }
+
+    /// Whether every width was met more than a few times, and a bound that is as small as may be.
+    pub fn at_every_width(&self) -> bool {
+        self.blocks.iter().all(|&blocks| blocks > 5) && self.taking_all.iter().all(|&all| all > 0)
     }
 }
 

@@ -10,7 +10,7 @@ use reference::Setting;
 pub struct Left {
     pub answer: Packed,
     pub word: Vec<u8>,
-    pub levels: Vec<i8>,
+    pub levels: Vec<i16>,
 }
 
 /// The bytes of so many bits.
@@ -37,7 +37,7 @@ pub fn quantise(
     random: &mut Random,
 ) -> Left {
     let lent = Guarded::new(samples, random);
-    let mut levels = Guarded::<i8>::by_chance(for_levels, random);
+    let mut levels = Guarded::<i16>::by_chance(for_levels, random);
     let mut word = Guarded::<u8>::by_chance(for_word, random);
     let (mut expected_levels, mut expected_word) = (levels.lent().to_vec(), word.lent().to_vec());
     let expected = reference::quantise(setting, samples, &mut expected_levels, &mut expected_word);
@@ -87,7 +87,7 @@ impl Subject {
     ) -> Left {
         let lent = Guarded::new(samples, random);
         let mut word = Guarded::<u8>::by_chance(for_word, random);
-        let mut levels = Guarded::<i8>::by_chance(for_levels, random);
+        let mut levels = Guarded::<i16>::by_chance(for_levels, random);
         let (mut expected_word, mut expected_levels) =
             (word.lent().to_vec(), levels.lent().to_vec());
         let expected = self.verdict().and_then(|()| {

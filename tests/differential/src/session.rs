@@ -1,7 +1,7 @@
 //! Sessions on both sides.
 
 use crate::samples::described_samples;
-use crate::{Guarded, Subject};
+use crate::{level_by_chance, Guarded, Subject};
 use ffi_face::{cells_of, record_of, Packed};
 use generator::Random;
 use reference::{pack, Answer, Refusal, Session, Setting};
@@ -14,7 +14,7 @@ pub const WORKING: u64 = 2;
 pub struct Lent {
     pub record: Vec<u16>,
     pub word: Vec<u8>,
-    pub levels: Vec<i8>,
+    pub levels: Vec<i16>,
 }
 
 impl Lent {
@@ -25,7 +25,7 @@ impl Lent {
         Lent {
             record: (0..8).map(|_| random.below(12) as u16).collect(),
             word: random.bytes(word),
-            levels: random.bytes(levels).into_iter().map(|b| b as i8).collect(),
+            levels: (0..levels).map(|_| level_by_chance(random)).collect(),
         }
     }
 
@@ -33,7 +33,7 @@ impl Lent {
     /// anything else, and a refused call leaves every cell.
     fn expect(
         &mut self,
-        call: impl FnOnce(&mut Session, &mut [u8], &mut [i8]) -> Result<Answer, Refusal>,
+        call: impl FnOnce(&mut Session, &mut [u8], &mut [i16]) -> Result<Answer, Refusal>,
     ) -> Packed {
         let Some(mut record) = record_of(&self.record) else {
             return Packed::refused(Refusal::plain(7));
@@ -53,7 +53,7 @@ impl Lent {
 #[derive(Clone, Debug, PartialEq)]
 pub struct Opened {
     pub received: Vec<u8>,
-    pub levels: Vec<i8>,
+    pub levels: Vec<i16>,
 }
 
 impl Opened {
@@ -76,14 +76,14 @@ impl Opened {
 }
 
 /// Any numbers, none of them 0 in most cases; or few other than 0; or one number.
-pub fn levels_by_chance(count: usize, random: &mut Random) -> Vec<i8> {
-    let one = *random.pick(&[0, 1, -1, 127, -128]);
+pub fn levels_by_chance(count: usize, random: &mut Random) -> Vec<i16> {
+    let one = *random.pick(&[0, 1, -1, 127, -128, 256, -256, 32_767, -32_768]);
     let kind = random.below(4);
     let level = |_| match kind {
         0 => one,
         1 if !random.once_in(5) => 0,
         2 if random.once_in(2) => 0,
-        _ => random.byte() as i8,
+        _ => level_by_chance(random),
     };
     (0..count).map(level).collect()
 }
@@ -92,7 +92,7 @@ pub fn levels_by_chance(count: usize, random: &mut Random) -> Vec<i8> {
 struct Guards {
     record: Guarded<u16>,
     word: Guarded<u8>,
-    levels: Guarded<i8>,
+    levels: Guarded<i16>,
 }
 
 impl Guards {

@@ -20,27 +20,36 @@ fn p6_to_p8() {
     let p6 = settings::level_step(3, 5, 0.5);
     let p7 = settings::level_step(3, 0, 0.5);
     let samples = [0.5, -1.0, -1.0, -1.0, -1.0, -1.0, -1.0];
-    let mut compare = |setting, samples: &[f32], number, word, levels: [u8; 7], report: [u8; 8]| {
-        let block = Block::new(setting, samples);
-        let expected = Written {
-            returned: number,
-            word: vec![word],
-            levels: levels.to_vec(),
-            report: report.to_vec(),
+    let mut compare =
+        |setting, samples: &[f32], number, word, levels: [u8; 14], counts: [u8; 6]| {
+            let block = Block::new(setting, samples);
+            let report = [&counts[..], &[0, 0]].concat();
+            let expected = Written {
+                returned: number,
+                word: vec![word],
+                levels: levels.to_vec(),
+                report: report.clone(),
+            };
+            assert_eq!(a.decode(&block, &mut random), expected);
+            let left = a.decode(&block.longer(&mut random), &mut random);
+            assert_eq!((left.returned, left.word[0]), (number, word));
+            assert_eq!(
+                (&left.levels[..14], &left.report[..8]),
+                (&levels[..], &report[..])
+            );
         };
-        assert_eq!(a.decode(&block, &mut random), expected);
-        let left = a.decode(&block.longer(&mut random), &mut random);
-        assert_eq!((left.returned, left.word[0]), (number, word));
-        assert_eq!(
-            (&left.levels[..7], &left.report[..8]),
-            (&levels[..], &report[..])
-        );
+    // 1 is 0001, −2 is FFFE and −3 is FFFD, the low byte first.
+    let (one, two, three) = ([0x01, 0x00], [0xFE, 0xFF], [0xFD, 0xFF]);
+    let levels = |first: [u8; 2], others: [u8; 2]| -> [u8; 14] {
+        let all = [&first[..], &others.repeat(6)].concat();
+        all.try_into().expect("two bytes a level")
     };
-    let levels = [0xFE, 0xFD, 0xFD, 0xFD, 0xFD, 0xFD, 0xFD];
-    compare(&p6, &samples, 0, 0x00, levels, [1, 0, 0, 0, 1, 0, 0, 0]);
-    let levels = [0x01, 0xFE, 0xFE, 0xFE, 0xFE, 0xFE, 0xFE];
-    compare(&p7, &samples, 1, 0x80, levels, [0, 0, 3, 0, 0, 0, 0, 0]);
-    compare(&p6, &[0.1; 7], 0, 0x00, [0xFD; 7], [1, 0, 0, 0, 0, 0, 0, 0]);
+    let decoded = [1, 0, 0, 0, 1, 0];
+    compare(&p6, &samples, 0, 0x00, levels(two, three), decoded);
+    let failed = [0, 0, 3, 0, 0, 0];
+    compare(&p7, &samples, 1, 0x80, levels(one, two), failed);
+    let none_counted = [1, 0, 0, 0, 0, 0];
+    compare(&p6, &[0.1; 7], 0, 0x00, levels(three, three), none_counted);
 }
 
 /// What the calls returned: decoded at once, decoded later, failed, and the most rounds.
@@ -80,7 +89,7 @@ fn compare(code: &Code, limits: &[u16], times: usize, seen: &mut Seen, random: &
     let firmware = Firmware::new(&code.matrix, random);
     let codewords = Codewords::of(&code.matrix);
     for _ in 0..times {
-        for bits in 2..=8 {
+        for bits in 2..=12 {
             for kind in [0, 1] {
                 let limit = *random.pick(limits);
                 let setting = settings::around_one(bits, limit, kind, random);
@@ -131,7 +140,7 @@ fn large_codes() {
         let codewords = Codewords::of(&code.matrix);
         for _ in 0..cases(1) {
             for limit in [0, 1, 5, 30] {
-                let (bits, kind) = (2 + random.below(7) as u16, random.below(2) as u16);
+                let (bits, kind) = (2 + random.below(11) as u16, random.below(2) as u16);
                 let setting = settings::around_one(bits, limit, kind, &mut random);
                 let block = some_block(&codewords, &setting, &mut random);
                 seen.count(&firmware.decode(&block, &mut random));
@@ -163,7 +172,7 @@ fn ends_of_the_sizes() {
             let samples = noise::received(&sent, deviation, &mut random);
             let setting = settings::level_step(8, 9, 0.015);
             let left = firmware.decode(&Block::new(&setting, &samples), &mut random);
-            assert_eq!((left.word.len(), left.levels.len()), (n.div_ceil(8), n));
+            assert_eq!((left.word.len(), left.levels.len()), (n.div_ceil(8), 2 * n));
             assert!(deviation > 0.0 || left.returned == 0, "{}", code.name);
         }
     }
@@ -179,7 +188,7 @@ fn matrices_by_chance() {
         let firmware = Firmware::new(&code.matrix, &mut random);
         let codewords = Codewords::of(&code.matrix);
         for _ in 0..3 {
-            let (bits, kind) = (2 + random.below(7) as u16, random.below(2) as u16);
+            let (bits, kind) = (2 + random.below(11) as u16, random.below(2) as u16);
             let limit = *random.pick(&LIMITS[..5]);
             let setting = settings::around_one(bits, limit, kind, &mut random);
             let block = some_block(&codewords, &setting, &mut random);
@@ -192,57 +201,72 @@ fn matrices_by_chance() {
     );
 }
 
-/// The byte of a level by the paper: "two's complement".
-fn byte_of(level: i32) -> u8 {
-    u8::try_from((256 + level) % 256).expect("a byte")
+/// The bytes of a level by the paper: "two's complement", "two bytes a level, low byte first".
+fn bytes_of(level: i32) -> [u8; 2] {
+    let number = (65_536 + level) % 65_536;
+    [number % 256, number / 256].map(|byte| u8::try_from(byte).expect("a byte"))
 }
 
-/// A code of 255 bits has a place for each level from −127 to 127. No round is done.
+/// A code of 255 bits has a place for each level from −127 to 127; those of more bits take several
+/// blocks. No round is done.
 #[test]
 fn every_level_as_quantised() {
     let mut random = random(2006);
     let firmware = Firmware::new(&codes::euclidean(4).matrix, &mut random);
-    for bits in 2..=8 {
+    for bits in 2..=12 {
         let largest = largest_level(bits);
         let steps = [
             settings::level_step(bits, 0, 1.0),
             settings::full_scale(bits, 0, largest as f32),
         ];
         for setting in steps {
-            let mut levels: Vec<i32> = (-127..=127)
+            // Seventeen blocks of 255: enough for L = 2,047.
+            let mut levels: Vec<i32> = (-2167..=2167)
                 .map(|k: i32| k.clamp(-largest, largest))
                 .collect();
-            for _ in 0..cases(4) {
-                let samples: Vec<f32> = levels.iter().map(|&k| k as f32).collect();
-                let left = firmware.decode(&Block::new(&setting, &samples), &mut random);
-                let expected: Vec<u8> = levels.iter().map(|&k| byte_of(k)).collect();
-                assert_eq!(left.levels, expected, "{setting:?}");
-                assert_eq!(left.counts()[0], 0);
+            for _ in 0..cases(2) {
+                for levels in levels.chunks(255) {
+                    let samples: Vec<f32> = levels.iter().map(|&k| k as f32).collect();
+                    let left = firmware.decode(&Block::new(&setting, &samples), &mut random);
+                    let expected: Vec<u8> = levels.iter().flat_map(|&k| bytes_of(k)).collect();
+                    assert_eq!(left.levels, expected, "{setting:?}");
+                    assert_eq!(left.counts()[0], 0);
+                }
                 random.shuffle(&mut levels);
             }
         }
     }
 }
 
-/// The same after rounds: every byte but 80 is seen.
+/// The same after rounds: every number from −L to L is seen, and no other.
+fn seen_after_rounds(code: &Code, bits: u16, blocks: usize, random: &mut Random) {
+    let firmware = Firmware::new(&code.matrix, random);
+    let largest = largest_level(bits);
+    let numbers = 2 * largest as usize + 1;
+    let mut seen = vec![false; numbers];
+    for limit in [1, 2, 3] {
+        for _ in 0..blocks {
+            let setting = settings::level_step(bits, limit, 1.0);
+            let sample = |_| (random.below(numbers) as i32 - largest) as f32;
+            let samples: Vec<f32> = (0..firmware.n()).map(sample).collect();
+            let left = firmware.decode(&Block::new(&setting, &samples), random);
+            assert!(left.counts()[0] > 0);
+            for pair in left.levels.chunks(2) {
+                let number = i32::from(pair[0]) + 256 * i32::from(pair[1]);
+                let level = (number + 32_768) % 65_536 - 32_768;
+                seen[usize::try_from(level + largest).expect("from −L on")] = true;
+            }
+        }
+    }
+    let unseen: Vec<usize> = (0..numbers).filter(|&at| !seen[at]).collect();
+    assert_eq!(unseen, [], "{bits}");
+}
+
 #[test]
 fn every_level_after_rounds() {
     let mut random = random(2007);
-    let firmware = Firmware::new(&codes::euclidean(4).matrix, &mut random);
-    let mut seen = [false; 256];
-    for limit in [1, 2, 3] {
-        for _ in 0..cases(20) {
-            let setting = settings::level_step(8, limit, 1.0);
-            let samples: Vec<f32> = (0..255).map(|_| random.below(255) as f32 - 127.0).collect();
-            let left = firmware.decode(&Block::new(&setting, &samples), &mut random);
-            assert!(left.counts()[0] > 0);
-            left.levels
-                .iter()
-                .for_each(|&byte| seen[usize::from(byte)] = true);
-        }
-    }
-    let unseen: Vec<usize> = (0..256).filter(|&byte| !seen[byte]).collect();
-    assert_eq!(unseen, [0x80]);
+    seen_after_rounds(&codes::euclidean(4), 8, cases(20), &mut random);
+    seen_after_rounds(&codes::cycle(1023), 12, cases(30), &mut random);
 }
 
 /// 341 rows of three ones, all of them odd: all fail, and after one round all 1,023 bits are 0. They
@@ -286,13 +310,13 @@ fn all_rounds_with_every_count_above_255() {
     assert_eq!(left.returned, 1);
     assert_eq!(left.report, [0xFF, 0, 0xFF, 0x01, 0xFF, 0x01, 0, 0]);
     assert_eq!(left.word, [vec![0x55; 127], vec![0x54]].concat());
-    assert_eq!(left.levels, [0, 1].repeat(511));
+    assert_eq!(left.signed(), [0, 1].repeat(511));
     let block = Block::new(&settings::level_step(3, 254, 0.5), &samples);
     let left = firmware.decode(&block, &mut random);
     assert_eq!(left.returned, 1);
     assert_eq!(left.report, [0xFE, 0, 0xFF, 0x01, 0, 0, 0, 0]);
     assert_eq!(left.word, [vec![0xAA; 127], vec![0xA8]].concat());
-    assert_eq!(left.levels, [1, 0].repeat(511));
+    assert_eq!(left.signed(), [1, 0].repeat(511));
 }
 
 /// Code U: column 0 weighs 4, column 1 weighs 3, the others 2. The levels are worked out in the
@@ -305,9 +329,8 @@ fn code_u_by_hand() {
     samples[0] = 0.5;
     let block = Block::new(&settings::level_step(4, 5, 0.5), &samples);
     let left = u.decode(&block, &mut random);
-    assert_eq!((left.returned, left.word), (0, vec![0, 0]));
-    let levels = [0xFD, 0xFD, 0xFE, 0xFE, 0xFE, 0xFE, 0xFE, 0xFE, 0xFE];
-    assert_eq!(left.levels, levels);
+    assert_eq!((left.returned, &left.word[..]), (0, &[0, 0][..]));
+    assert_eq!(left.signed(), [-3, -3, -2, -2, -2, -2, -2, -2, -2]);
     assert_eq!(left.report, [1, 0, 0, 0, 1, 0, 0, 0]);
 }
 
@@ -317,22 +340,22 @@ fn odd_samples() {
     let mut random = random(2011);
     let firmware = Firmware::new(&codes::single_row(16).matrix, &mut random);
     let patterns = [
-        (0x0000_0000, 0, 0x00), // 0
-        (0x8000_0000, 0, 0x00), // −0
-        (0x0000_0001, 1, 0x00), // the smallest
-        (0x8000_0001, 0, 0x00),
-        (0x007F_FFFF, 1, 0x00), // the largest without a leading one
-        (0x807F_FFFF, 0, 0x00),
-        (0x0080_0000, 1, 0x00), // the smallest with it
-        (0x8080_0000, 0, 0x00),
-        (0x7F7F_FFFF, 1, 0x7F), // the largest
-        (0xFF7F_FFFF, 0, 0x81),
-        (0x3EFF_FFFF, 1, 0x00), // the last below half a step
-        (0xBEFF_FFFF, 0, 0x00),
-        (0x3F00_0000, 1, 0x01), // half a step
-        (0xBF00_0000, 0, 0xFF),
-        (0x42FE_0000, 1, 0x7F), // 127
-        (0xC2FE_0000, 0, 0x81),
+        (0x0000_0000, 0, 0), // 0
+        (0x8000_0000, 0, 0), // −0
+        (0x0000_0001, 1, 0), // the smallest
+        (0x8000_0001, 0, 0),
+        (0x007F_FFFF, 1, 0), // the largest without a leading one
+        (0x807F_FFFF, 0, 0),
+        (0x0080_0000, 1, 0), // the smallest with it
+        (0x8080_0000, 0, 0),
+        (0x7F7F_FFFF, 1, 127), // the largest
+        (0xFF7F_FFFF, 0, -127),
+        (0x3EFF_FFFF, 1, 0), // the last below half a step
+        (0xBEFF_FFFF, 0, 0),
+        (0x3F00_0000, 1, 1), // half a step
+        (0xBF00_0000, 0, -1),
+        (0x42FE_0000, 1, 127), // 127
+        (0xC2FE_0000, 0, -127),
     ];
     for _ in 0..cases(40) {
         let mut patterns = patterns;
@@ -344,6 +367,6 @@ fn odd_samples() {
             .iter()
             .fold(0_u16, |word, (_, bit, _)| 2 * word + bit);
         assert_eq!(left.word, bits.to_be_bytes());
-        assert_eq!(left.levels, patterns.map(|(_, _, byte)| byte));
+        assert_eq!(left.signed(), patterns.map(|(_, _, level)| level));
     }
 }

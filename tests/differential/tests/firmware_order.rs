@@ -61,7 +61,7 @@ const LIST: [Cause; 7] = [
 /// The causes of 6.
 const SETTING: [Cause; 11] = [
     |case| case.block.bits = 1,
-    |case| case.block.bits = 9,
+    |case| case.block.bits = 13,
     |case| case.block.limit = 256,
     |case| case.block.kind = 2,
     |case| case.block.kind = 65_535,
@@ -74,14 +74,15 @@ const SETTING: [Cause; 11] = [
 ];
 
 /// The causes of 7. The samples that stay are those before the last.
-const BUFFERS: [Cause; 11] = [
+const BUFFERS: [Cause; 12] = [
     |case| case.block.samples.truncate(79),
     |case| case.block.samples.truncate(76),
     |case| case.block.samples.push(0),
     |case| case.block.samples.extend([0; 4]),
     |case| case.block.for_word = 2,
     |case| case.block.for_word = 0,
-    |case| case.block.for_levels = 19,
+    |case| case.block.for_levels = 39,
+    |case| case.block.for_levels = 20,
     |case| case.block.for_levels = 0,
     |case| case.block.for_report = 7,
     |case| case.block.for_report = 6,

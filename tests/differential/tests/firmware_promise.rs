@@ -3,15 +3,16 @@
 
 use differential::firmware::{Block, Firmware};
 use differential::rule::{
-    enough, some_setting, with_limit, Change, Seen, Source, UNDECIDED, WORST,
+    enough, some_setting, with_limit, Change, Finer, Seen, Source, FINER, LARGEST_LIMIT, UNDECIDED,
+    WORST,
 };
 use differential::{cases, random};
 use generator::codes::{self, Code};
 use generator::{patterns, settings, unlike, Random};
 use reference::{largest_level, level, pack, Setting};
 
-/// Widths and the limits that the promise asks for, L / 2 + 1.
-const LIMITS: [(u16, usize); 3] = [(8, 64), (3, 2), (2, 1)];
+/// Widths and the limits that the promise asks for, L / 2 + 1. With more than 9 bits no limit is as large.
+const LIMITS: [(u16, usize); 4] = [(9, 128), (8, 64), (3, 2), (2, 1)];
 
 /// Each of them with both kinds of step, which may be any.
 fn promised(random: &mut Random) -> Vec<Setting> {
@@ -61,6 +62,25 @@ impl Tried {
         assert_eq!((failing, changed), (0, counted), "{}", call());
         assert_eq!(left.report[6..8], [0, 0], "{}", call());
         assert!(rounds <= usize::from(setting.limit), "{}", call());
+        rounds
+    }
+
+    /// The promise with no round to spare and with the largest limit. Gives the rounds, of which one less
+    /// fails.
+    fn keeps_in_time(
+        &self,
+        change: &Change,
+        setting: &Setting,
+        samples: &[f32],
+        random: &mut Random,
+    ) -> usize {
+        let bound = change.bound(setting.bits);
+        let rounds = self.keeps(change, &with_limit(setting, bound), samples, random);
+        let largest = with_limit(setting, LARGEST_LIMIT);
+        assert_eq!(self.keeps(change, &largest, samples, random), rounds);
+        let less = Block::new(&with_limit(setting, rounds - 1), samples);
+        let left = self.firmware.decode(&less, random);
+        assert_eq!((left.returned, left.counts()[0]), (1, rounds - 1));
         rounds
     }
 }
@@ -158,6 +178,28 @@ fn large_codes() {
         }
     }
     assert!(seen.none > 50 && seen.all > 5, "{seen:?}");
+}
+
+/// Nine bits and more: every number w of wrong samples for which L / (gamma - 2 w + 2) + 1 is a limit. It
+/// does, and some blocks take all of its rounds.
+#[test]
+fn finer_levels() {
+    let mut random = random(2205);
+    let mut finer = Finer::default();
+    for code in [some_codes(), vec![codes::euclidean(4)]].concat() {
+        let tried = Tried::new(code, &mut random);
+        for bits in FINER {
+            let setting = some_setting(bits, random.below(2) as u16, &mut random);
+            for (change, samples) in tried.source.blocks_in_time(&setting, &mut random) {
+                let rounds = tried.keeps_in_time(&change, &setting, &samples, &mut random);
+                finer.count(&change, bits, rounds);
+            }
+        }
+    }
+    assert!(finer.at_every_width(), "{finer:?}");
+    // By the README's table for gamma 16, that of EG255, which is the largest here: t is 8, and t, t - 1,
+    // t - 2 and t - 4 are promised.
+    assert_eq!(finer.most_wrong, [8, 7, 6, 4]);
 }
 
 /// Code A, zeros sent, sample 0 at the largest level and above: each round takes 3 off 127.

@@ -101,10 +101,13 @@ fn lengths_of_the_written() {
         let n = usize::from(code.matrix.n);
         let firmware = Firmware::new(&code.matrix, &mut random);
         let right = Block::by_chance(n, &mut random);
-        let needed = [bytes_for(n), n, REPORT];
+        let needed = [bytes_for(n), 2 * n, REPORT];
         for buffer in 0..3 {
             let near = (-2..=2).map(|by| off_by(needed[buffer], by));
-            for length in near.chain([Some(0), Some(1)]).flatten() {
+            for length in near
+                .chain([Some(0), Some(1), Some(needed[buffer] / 2)])
+                .flatten()
+            {
                 let mut block = right.longer(&mut random);
                 let rooms = [
                     &mut block.for_word,
@@ -126,7 +129,7 @@ fn lengths_together() {
     let firmware = Firmware::new(&code.matrix, &mut random);
     let right = Block::by_chance(9, &mut random);
     for for_word in 0..=4 {
-        for for_levels in [0, 1, 7, 8, 9, 10, 20] {
+        for for_levels in [0, 1, 8, 9, 10, 16, 17, 18, 19, 20, 36] {
             for for_report in [0, 1, 6, 7, 8, 9, 16] {
                 let block = Block {
                     for_word,
@@ -134,7 +137,7 @@ fn lengths_together() {
                     for_report,
                     ..right.clone()
                 };
-                let fits = for_word >= 2 && for_levels >= 9 && for_report >= 8;
+                let fits = for_word >= 2 && for_levels >= 18 && for_report >= 8;
                 fits_or_7(&firmware, &block, fits, &mut random);
             }
         }
@@ -180,10 +183,10 @@ fn all_steps_not_finite() {
         step: GOOD.step.to_bits(),
         samples: &samples,
     };
-    let (mut word, mut levels, mut report) = ([0xEE; 1], [0xEE; 2], [0xEE; REPORT]);
+    let (mut word, mut levels, mut report) = ([0xEE; 1], [0xEE; 4], [0xEE; REPORT]);
     let mut returned = |call: &Call| {
         let returned = firmware_face::decode(call, &mut word, &mut levels, &mut report);
-        let stay = (word, levels, report) == ([0xEE; 1], [0xEE; 2], [0xEE; REPORT]);
+        let stay = (word, levels, report) == ([0xEE; 1], [0xEE; 4], [0xEE; REPORT]);
         (returned, stay)
     };
     for (kind, every) in [(0, 1), (1, 61)] {
@@ -252,8 +255,8 @@ fn ends_of_the_steps_range() {
 }
 
 /// The ends of the ranges of width, limit and kind and of a byte, and numbers beyond them.
-const NUMBERS: [u16; 15] = [
-    0, 1, 2, 3, 8, 9, 254, 255, 256, 257, 258, 264, 512, 32_768, 65_535,
+const NUMBERS: [u16; 18] = [
+    0, 1, 2, 3, 8, 9, 12, 13, 254, 255, 256, 257, 258, 264, 268, 512, 32_768, 65_535,
 ];
 
 /// A change of the setting, and which numbers it is accepted with.
@@ -262,7 +265,7 @@ type Part = (fn(&mut Block, u16), fn(u16) -> bool);
 const PARTS: [Part; 3] = [
     (
         |block, bits| block.bits = bits,
-        |bits| (2..=8).contains(&bits),
+        |bits| (2..=12).contains(&bits),
     ),
     (|block, limit| block.limit = limit, |limit| limit <= 255),
     (|block, kind| block.kind = kind, |kind| kind <= 1),

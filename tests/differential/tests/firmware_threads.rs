@@ -64,7 +64,8 @@ impl Shared {
             settings::level_step(8, 20, 0.02),
             settings::full_scale(4, 5, 1.5),
             settings::level_step(2, 1, 0.5),
-            settings::level_step(9, 5, 0.5),
+            settings::full_scale(12, 20, 3.0),
+            settings::level_step(13, 5, 0.5),
         ];
         let verdict = check_bytes(&self.call(&settings[0], &[]));
         let mut calls = Vec::new();
@@ -85,7 +86,7 @@ impl Shared {
 fn left(call: &Call, decode: impl Fn(&Call, &mut [u8], &mut [u8], &mut [u8]) -> u32) -> Written {
     let n = usize::from(call.n);
     let mut word = vec![FILLING; bytes_for(n) + 1];
-    let mut levels = vec![FILLING; n + 1];
+    let mut levels = vec![FILLING; 2 * n + 1];
     let mut report = vec![FILLING; REPORT + 1];
     Written {
         returned: decode(call, &mut word, &mut levels, &mut report),

@@ -34,7 +34,7 @@ fn p6_to_p8() {
     let a = Indexed::new(&codes::code_a().matrix, &mut random);
     let p6 = settings::level_step(3, 5, 0.5);
     let samples = [0.5, -1.0, -1.0, -1.0, -1.0, -1.0, -1.0];
-    let mut compare = |setting, samples: &[f32], answer, word: u8, levels: [i8; 7]| {
+    let mut compare = |setting, samples: &[f32], answer, word: u8, levels: [i16; 7]| {
         let left = a.iterative(a.own(), setting, samples, (1, 7), &mut random);
         let expected = Left {
             answer,
@@ -97,8 +97,9 @@ const DEVIATIONS: [f64; 6] = [0.0, 0.3, 0.5, 0.7, 1.0, 3.0];
 fn blocks(code: &Code, limits: &[u16], times: usize, random: &mut Random) {
     let indexed = Indexed::new(&code.matrix, random);
     let codewords = Codewords::of(&code.matrix);
-    for at in 0..times {
-        let (bits, kind) = (2 + (at % 7) as u16, random.below(2) as u16);
+    let first = random.below(11);
+    for at in first..first + times {
+        let (bits, kind) = (2 + (at % 11) as u16, random.below(2) as u16);
         let limit = *random.pick(limits);
         let setting = settings::around_one(bits, limit, kind, random);
         let deviation = *random.pick(&DEVIATIONS);
@@ -127,10 +128,10 @@ fn medium_codes() {
     let mut random = random(1704);
     for code in codes::medium() {
         words(&code, cases(2), &mut random);
-        blocks(&code, &[0, 1, 2, 5, 30], cases(7), &mut random);
+        blocks(&code, &[0, 1, 2, 5, 30], cases(11), &mut random);
         let shuffled = code.shuffled(&mut random);
         words(&shuffled, cases(1), &mut random);
-        blocks(&shuffled, &[1, 2, 5, 30], cases(7), &mut random);
+        blocks(&shuffled, &[1, 2, 5, 30], cases(11), &mut random);
     }
 }
 

@@ -46,7 +46,7 @@ fn p6_to_p8() {
     let a = Subject::new(&codes::code_a().matrix, &mut random);
     let p6 = settings::level_step(3, 5, 0.5);
     let samples = [0.5, -1.0, -1.0, -1.0, -1.0, -1.0, -1.0];
-    let mut compare = |setting, samples: &[f32], answer, word: u8, levels: [i8; 7]| {
+    let mut compare = |setting, samples: &[f32], answer, word: u8, levels: [i16; 7]| {
         let left = a.iterative(setting, samples, 1, 7, &mut random);
         let expected = Left {
             answer,
@@ -112,7 +112,7 @@ fn small_codes() {
     for code in codes::small() {
         let subject = Subject::new(&code.matrix, &mut random);
         let codewords = Codewords::of(&code.matrix);
-        for bits in 2..=8 {
+        for bits in 2..=12 {
             for kind in [0, 1] {
                 for limit in LIMITS {
                     let setting = settings::around_one(bits, limit, kind, &mut random);
@@ -153,7 +153,7 @@ fn compare(code: &Code, limits: &[u16], times: usize, seen: &mut Seen, random: &
     let subject = Subject::new(&code.matrix, random);
     let codewords = Codewords::of(&code.matrix);
     for _ in 0..times {
-        for bits in 2..=8 {
+        for bits in 2..=12 {
             for kind in [0, 1] {
                 let limit = *random.pick(limits);
                 let setting = settings::around_one(bits, limit, kind, random);
@@ -208,7 +208,7 @@ fn large_codes() {
         let codewords = Codewords::of(&code.matrix);
         for _ in 0..cases(1) {
             for limit in [1, 5, 30] {
-                let (bits, kind) = (2 + random.below(7) as u16, random.below(2) as u16);
+                let (bits, kind) = (2 + random.below(11) as u16, random.below(2) as u16);
                 let setting = settings::around_one(bits, limit, kind, &mut random);
                 let deviation = *random.pick(&DEVIATIONS);
                 let samples = block(&codewords, deviation, &mut random);

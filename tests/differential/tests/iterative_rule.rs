@@ -3,7 +3,7 @@
 //! samples and however weak the right ones. The reference's opinion is asked as well.
 
 use differential::rule::{
-    all_settings, enough, some_setting, with_limit, Change, Seen, Source, WORST,
+    all_settings, enough, some_setting, with_limit, Change, Finer, Seen, Source, FINER, WORST,
 };
 use differential::{cases, random, Lent, Opened, Subject, WORKING};
 use ffi_face::Packed;
@@ -402,4 +402,23 @@ fn level_zero_matters() {
     let samples = [-1.5, 0.25, 0.5];
     let rounds = tried.comes_back_in_time(&change, &setting, &samples, &mut random);
     assert_eq!(rounds, 2);
+}
+
+/// Nine bits and more, wherever the bound is a limit that a setting may have: it is kept, and some blocks
+/// take all of its rounds.
+#[test]
+fn finer_levels() {
+    let mut random = random(1507);
+    let mut finer = Finer::default();
+    for code in [small_and_three_more(), vec![codes::euclidean(4)]].concat() {
+        let tried = Tried::new(code, &mut random);
+        for bits in FINER {
+            let setting = some_setting(bits, random.below(2) as u16, &mut random);
+            for (change, samples) in tried.source.blocks_in_time(&setting, &mut random) {
+                let rounds = tried.comes_back_in_time(&change, &setting, &samples, &mut random);
+                finer.count(&change, bits, rounds);
+            }
+        }
+    }
+    assert!(finer.at_every_width(), "{finer:?}");
 }

@@ -14,7 +14,7 @@ fn refused(number: u64, place: u64) -> Packed {
 
 /// Every width with both kinds.
 fn widths_and_kinds() -> impl Iterator<Item = (u16, u16)> {
-    (2..=8).flat_map(|bits| [(bits, 0), (bits, 1)])
+    (2..=12).flat_map(|bits| [(bits, 0), (bits, 1)])
 }
 
 /// Steps at the ends of the range, powers of two, short and long significands, odd ones.
@@ -44,6 +44,9 @@ fn steps(random: &mut Random) -> Vec<f32> {
         254.0,
         255.0,
         1000.1,
+        2047.0,
+        4093.0,
+        4094.0,
         65_537.0,
         most / 2.0,
         most.next_down(),
@@ -122,7 +125,7 @@ fn exact_half_ways() {
                     -half_way.next_down(),
                 ];
                 let left = quantise_exactly(&setting, &samples, &mut random);
-                assert_eq!(left.levels, [k, k - 1, -k, 1 - k].map(|level| level as i8));
+                assert_eq!(left.levels, [k, k - 1, -k, 1 - k].map(|level| level as i16));
                 assert_eq!(left.word, [0b1100_0000]);
             }
         }
@@ -344,7 +347,7 @@ fn settings_combined() {
     let (least, most) = (2.0_f32.powi(-20), 2.0_f32.powi(20));
     let mut steps = settings::steps_out_of_range();
     steps.extend([least, least.next_up(), 1.0, most.next_down(), most]);
-    for bits in [0, 1, 2, 8, 9, 258, 65_535] {
+    for bits in [0, 1, 2, 8, 9, 12, 13, 258, 65_535] {
         for limit in [0, 1, 255, 256, 65_535] {
             for kind in [0, 1, 2, 256, 257] {
                 for &step in &steps {
@@ -354,7 +357,7 @@ fn settings_combined() {
                         kind,
                         step,
                     };
-                    let fits = (2..=8).contains(&bits)
+                    let fits = (2..=12).contains(&bits)
                         && limit <= 255
                         && kind <= 1
                         && step >= least

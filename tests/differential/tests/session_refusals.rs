@@ -2,7 +2,7 @@
 //! places, levels out of range, and the order in which a step asks.
 
 use differential::causes::{matrix_with, subset, PLACES};
-use differential::{cases, levels_by_chance, random, Lent, Opened, Subject};
+use differential::{cases, level_by_chance, levels_by_chance, random, Lent, Opened, Subject};
 use ffi_face::Packed;
 use generator::codes::{self, Code};
 use generator::{damage, settings, Codewords, Random};
@@ -23,7 +23,7 @@ fn in_its_midst(subject: &Subject, bits: u16, random: &mut Random) -> (Lent, Ope
     lent.word[..word.len()].copy_from_slice(&word);
     let largest = largest_level(bits);
     for level in &mut lent.levels[..n] {
-        *level = (random.below(2 * largest as usize + 1) as i32 - largest) as i8;
+        *level = (random.below(2 * largest as usize + 1) as i32 - largest) as i16;
     }
     (lent, Opened::by_chance(subject, random))
 }
@@ -40,20 +40,48 @@ fn answer(subject: &Subject, lent: &Lent, opened: &Opened, random: &mut Random) 
     subject.step(&mut lent.clone(), opened, random)
 }
 
+/// The refusal of a record whose width alone is set to another: one that is narrower may find levels beyond
+/// its own.
+fn of_width(bits: u16, levels: &[i16]) -> u64 {
+    if !(2..=12).contains(&bits) {
+        return 20;
+    }
+    let largest = largest_level(bits);
+    match levels.iter().any(|&level| i32::from(level).abs() > largest) {
+        true => 23,
+        false => 0,
+    }
+}
+
+/// The refusal of a record of which another field alone is set from `is` to this value.
+fn of_field(field: usize, value: u16, is: u16) -> u64 {
+    match (field, value) {
+        (0, 1) => 0,
+        (0, 2 | 3) => 21,
+        (2, 8..=255) => 0,
+        (3, 0..30) => 0,
+        (0 | 2 | 3, _) => 20,
+        _ if value == is => 0,
+        _ => 22,
+    }
+}
+
 /// Each field of the record set to other values, alone.
 #[test]
 fn every_field_of_the_record() {
     let mut random = random(1400);
+    let mut by_levels = [0; 2];
     for code in some_codes() {
         let subject = Subject::new(&code.matrix, &mut random);
-        for bits in [2, 5, 8] {
+        let n = usize::from(code.matrix.n);
+        for bits in [2, 5, 8, 12] {
             let (lent, opened) = in_its_midst(&subject, bits, &mut random);
             assert_eq!(answer(&subject, &lent, &opened, &mut random).refusal(), 0);
             for field in 0..8 {
                 let is = lent.record[field];
                 let mut values = vec![
-                    0, 1, 2, 3, 4, 5, 6, 7, 8, 9, 29, 30, 31, 254, 255, 256, 257, 1023, 1024,
-                    32_768, 65_535,
+                    0, 1, 2, 3, 4, 5, 6, 7, 8, 9, 12, 13, 14, 29, 30, 31, 254, 255, 256, 257, 1023,
+                    1024, 32_768, 65_535,
                 ];
                 values.extend([is.wrapping_sub(1), is + 1, is + 256, is + 32_768]);
                 for value in values {
@@ -61,25 +89,19 @@ fn every_field_of_the_record() {
                     lent.record[field] = value;
                     let answer = answer(&subject, &lent, &opened, &mut random);
                     let expected = match field {
-                        0 => match value {
-                            1 => 0,
-                            2 | 3 => 21,
-                            _ => 20,
-                        },
-                        // A narrower record may find levels beyond its own.
-                        1 if (2..=8).contains(&value) => answer.refusal(),
-                        1 => 20,
-                        2 if (8..=255).contains(&value) => 0,
-                        3 if value < 30 => 0,
-                        2 | 3 => 20,
-                        _ if value == is => 0,
-                        _ => 22,
+                        1 => of_width(value, &lent.levels[..n]),
+                        _ => of_field(field, value, is),
                     };
+                    if field == 1 && (2..=12).contains(&value) {
+                        by_levels[usize::from(expected == 23)] += 1;
+                    }
                     assert_eq!(answer.refusal(), expected, "field {field}, value {value}");
                 }
             }
         }
     }
+    // Other widths, accepted and refused.
+    assert!(by_levels.iter().all(|&count| count > 50), "{by_levels:?}");
 }
 
 /// The record is empty or has ended: nothing else of it is asked.
@@ -137,7 +159,7 @@ fn buffers_of_a_step() {
         let (good, good_opened) = in_its_midst(&subject, 6, &mut random);
         let mut good = good;
         good.word.resize(needed + 9, 0xFF);
-        good.levels.resize(n + 9, -128);
+        good.levels.resize(n + 9, -32_768);
         for for_word in [0, needed - 1, needed, needed + 1, needed + 9] {
             for for_levels in [0, n - 1, n, n + 1, n + 9] {
                 for length in [0, needed - 1, needed, needed + 1] {
@@ -187,10 +209,12 @@ fn the_numbers_of_the_openings_levels() {
     for code in some_codes() {
         let subject = Subject::new(&code.matrix, &mut random);
         let n = usize::from(code.matrix.n);
-        for bits in 2..=8 {
-            let largest = largest_level(bits) as i8;
+        for bits in 2..=12 {
+            let largest = largest_level(bits) as i16;
             let (lent, good) = in_its_midst(&subject, bits, &mut random);
-            for level in [-128, -127, -largest, -1, 0, 1, largest, 127] {
+            for level in [
+                -32_768, -128, -127, -largest, -1, 0, 1, largest, 127, 256, 32_767,
+            ] {
                 for place in [0, 1, n / 2, n - 1, random.below(n)] {
                     let mut opened = good.clone();
                     opened.levels[place] = level;
@@ -232,25 +256,26 @@ fn spare_places() {
     }
 }
 
-/// Levels one beyond ±L and at the ends of eight bits, at every place; beyond the first n they
-/// are not asked about.
+/// Levels one beyond ±L, at the ends of eight and of sixteen bits, and such as are within ±L by their low
+/// byte, at every place; beyond the first n they are not asked about.
 #[test]
 fn levels_out_of_range() {
     let mut random = random(1405);
     for code in some_codes() {
         let subject = Subject::new(&code.matrix, &mut random);
         let n = usize::from(code.matrix.n);
-        for bits in 2..=8 {
+        for bits in 2..=12 {
             let largest = largest_level(bits);
             let (mut good, opened) = in_its_midst(&subject, bits, &mut random);
             good.levels.resize(n + 3, 0);
-            let ends = [largest + 1, -largest - 1, 127, -127, -128];
-            let beyond = ends.iter().filter(|end| end.abs() > largest);
-            for &level in beyond.filter(|&&level| level <= 127) {
+            let mut ends = vec![largest + 1, -largest - 1];
+            ends.extend([127, -127, 128, -128, 255, 256, -256, 4096, -4096]);
+            ends.extend([32_767, -32_767, -32_768]);
+            for &level in ends.iter().filter(|end| end.abs() > largest) {
                 let places = [0, 1, n / 2, n - 2, n - 1, n, n + 2, random.below(n)];
                 for place in places {
                     let mut lent = good.clone();
-                    lent.levels[place] = level as i8;
+                    lent.levels[place] = level as i16;
                     let answer = answer(&subject, &lent, &opened, &mut random);
                     let expected = if place < n { 23 } else { 0 };
                     assert_eq!(answer.refusal(), expected, "{level} at {place}");
@@ -258,7 +283,7 @@ fn levels_out_of_range() {
             }
             for level in [largest, -largest] {
                 let mut lent = good.clone();
-                lent.levels.fill(level as i8);
+                lent.levels.fill(level as i16);
                 assert_eq!(answer(&subject, &lent, &opened, &mut random).refusal(), 0);
             }
         }
@@ -308,7 +333,7 @@ fn the_order_in_which_a_step_asks() {
                 0 => {}
                 1 => match random.below(5) {
                     0 => lent.record[0] = *random.pick(&[0, 4, 65_535]),
-                    1 => lent.record[1] = *random.pick(&[1, 9]),
+                    1 => lent.record[1] = *random.pick(&[1, 13]),
                     2 => lent.record[2] = 256,
                     3 => lent.record[3] = 30,
                     _ => lent.record[2] = *random.pick(&[0, 7]),
@@ -324,7 +349,7 @@ fn the_order_in_which_a_step_asks() {
             if current {
                 match random.below(2) {
                     0 => lent.word[2] |= *random.pick(&[1, 2, 4, 8, 15]),
-                    _ => lent.levels[random.below(n - 1)] = *random.pick(&[8, -8, 127, -128]),
+                    _ => lent.levels[random.below(n - 1)] = *random.pick(&[8, -8, 256, -32_768]),
                 }
             }
             if buffer {
@@ -429,11 +454,11 @@ fn calls_by_chance() {
             match random.below(15) {
                 0 => {
                     let field = random.below(8);
-                    lent.record[field] = random.below(12) as u16;
+                    lent.record[field] = random.below(16) as u16;
                 }
                 1 => {
                     let at = random.below(lent.levels.len());
-                    lent.levels[at] = random.byte() as i8;
+                    lent.levels[at] = level_by_chance(&mut random);
                 }
                 2 => {
                     let at = random.below(lent.word.len());
@@ -441,14 +466,14 @@ fn calls_by_chance() {
                 }
                 3 => {
                     let at = random.below(opened.levels.len());
-                    opened.levels[at] = random.byte() as i8;
+                    opened.levels[at] = level_by_chance(&mut random);
                 }
                 4 if random.once_in(4) => {
                     opened
                         .levels
                         .truncate(1 + random.below(opened.levels.len()));
                 }
-                5 if random.once_in(4) => opened.levels.push(random.byte() as i8),
+                5 if random.once_in(4) => opened.levels.push(level_by_chance(&mut random)),
                 _ => {}
             }
             let mut other = code.matrix.clone();

@@ -1,7 +1,9 @@
 //! Sessions: after every call the record, word, levels and answer; stepped runs against whole
 //! calls; words, levels and matrices that change between steps.
 
-use differential::{cases, levels_by_chance, random, Lent, Opened, Subject, WORKING};
+use differential::{
+    cases, level_by_chance, levels_by_chance, random, Lent, Opened, Subject, WORKING,
+};
 use ffi_face::Packed;
 use generator::codes::{self, Code};
 use generator::{noise, settings, Codewords, Random};
@@ -14,7 +16,7 @@ fn block(codewords: &Codewords, random: &mut Random) -> Vec<f32> {
 
 /// A setting of any width and kind.
 fn some_setting(limits: &[u16], random: &mut Random) -> Setting {
-    let (bits, kind) = (2 + random.below(7) as u16, random.below(2) as u16);
+    let (bits, kind) = (2 + random.below(11) as u16, random.below(2) as u16);
     let limit = *random.pick(limits);
     settings::around_one(bits, limit, kind, random)
 }
@@ -138,7 +140,7 @@ fn words_and_levels_by_chance() {
         let subject = Subject::new(&code.matrix, &mut random);
         let n = usize::from(code.matrix.n);
         for _ in 0..cases(10) {
-            let bits = 2 + random.below(7) as u16;
+            let bits = 2 + random.below(11) as u16;
             let limit = 1 + random.below(255) as u16;
             let k = match random.below(2) {
                 0 => limit - 1,
@@ -151,11 +153,11 @@ fn words_and_levels_by_chance() {
             lent.word[..word.len()].copy_from_slice(&word);
             for level in &mut lent.levels[..n] {
                 let above = random.below(2 * largest as usize + 1) as i32;
-                *level = (above - largest) as i8;
+                *level = (above - largest) as i16;
             }
             if random.once_in(4) {
                 let end = *random.pick(&[largest, -largest, 0, 1, -1]);
-                lent.levels[..n].fill(end as i8);
+                lent.levels[..n].fill(end as i16);
             }
             let opened = Opened::by_chance(&subject, &mut random);
             let answer = subject.step(&mut lent, &opened, &mut random);
@@ -181,7 +183,7 @@ fn disturbed_between_steps() {
         let n = usize::from(code.matrix.n);
         for _ in 0..cases(10) {
             let setting = some_setting(&[2, 5, 30], &mut random);
-            let largest = largest_level(setting.bits) as i8;
+            let largest = largest_level(setting.bits) as i16;
             let samples = block(&codewords, &mut random);
             let mut lent = Lent::by_chance(&subject, &mut random);
             subject.open(&mut lent, &setting, &samples, &mut random);
@@ -192,7 +194,7 @@ fn disturbed_between_steps() {
                     0 => lent.word[j / 8] ^= 128 >> (j % 8),
                     1 => lent.levels[j] = *random.pick(&[largest, -largest, 0, 1]),
                     2 => opened.received[j / 8] ^= 128 >> (j % 8),
-                    3 => opened.levels[j] = random.byte() as i8,
+                    3 => opened.levels[j] = level_by_chance(&mut random),
                     4 => opened.levels = levels_by_chance(n, &mut random),
                     5 => lent.record[3] = lent.record[3].saturating_sub(1),
                     _ => lent.record[0] = 1,

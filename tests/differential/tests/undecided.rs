@@ -215,7 +215,7 @@ fn by_hand() {
     let mut random = random(2703);
     let tried = Tried::new(codes::code_a(), &mut random);
     let p6 = settings::level_step(3, 5, 0.5);
-    let mut compare = |samples: [f32; 7], rounds, word, levels: [i8; 7], changed, all| {
+    let mut compare = |samples: [f32; 7], rounds, word, levels: [i16; 7], changed, all| {
         let left = tried.subject().iterative(&p6, &samples, 1, 7, &mut random);
         assert_eq!(left.answer, Packed::new(0, rounds, 0, changed));
         assert_eq!(
@@ -271,7 +271,7 @@ fn opened(tried: &Tried, random: &mut Random) -> (Lent, Opened) {
 fn stepped_with(
     subject: &Subject,
     (lent, opened): (&Lent, &Opened),
-    levels: &[i8],
+    levels: &[i16],
     (left, answer): (&Lent, Packed),
     random: &mut Random,
 ) -> usize {
@@ -308,16 +308,16 @@ fn other_levels_than_the_openings() {
                 let answer = subject.step(&mut left, &opened, &mut random);
                 let all = ffi_face::changed(&left.word[..subject.needed()], &opened.received);
                 let any = levels_by_chance(n, &mut random);
-                let mut with = |levels: &[i8]| {
+                let mut with = |levels: &[i16]| {
                     let (lent, left) = ((&lent, &opened), (&left, answer));
                     stepped_with(subject, lent, levels, left, &mut random)
                 };
                 assert_eq!(with(&opened.levels), answer.changed());
                 assert_eq!(with(&vec![0; n]), 0);
-                for level in [1, -1, 127, -127, -128] {
+                for level in [1, -1, 127, -128, 256, -32_768] {
                     assert_eq!(with(&vec![level; n]), all.changed());
                 }
-                let negated: Vec<i8> = opened.levels.iter().map(|level| -level).collect();
+                let negated: Vec<i16> = opened.levels.iter().map(|level| -level).collect();
                 assert_eq!(with(&negated), answer.changed());
                 with(&lent.levels[..n]);
                 with(&left.levels[..n]);
@@ -346,14 +346,14 @@ fn each_place_alone() {
             let all = (0..n).filter(|&j| word[j] != received[j]).count();
             for j in 0..n {
                 let turned = usize::from(word[j] != received[j]);
-                let mut with = |levels: &[i8]| {
+                let mut with = |levels: &[i16]| {
                     let (lent, left) = ((&lent, &opened), (&left, answer));
                     stepped_with(subject, lent, levels, left, &mut random)
                 };
                 let mut alone = vec![0; n];
-                alone[j] = [1, -1, -128][j % 3];
+                alone[j] = [1, -1, -128, 256, -32_768][j % 5];
                 assert_eq!(with(&alone), turned, "{j}");
-                let mut others = vec![-128; n];
+                let mut others = vec![-32_768; n];
                 others[j] = 0;
                 assert_eq!(with(&others), all - turned, "{j}");
             }

@@ -222,7 +222,7 @@ fn a_session_keeps_the_lent_gamma() {
 
 /// A setting of any width and kind, with few rounds.
 fn some_setting(random: &mut Random) -> Setting {
-    let (bits, kind) = (2 + random.below(7) as u16, random.below(2) as u16);
+    let (bits, kind) = (2 + random.below(11) as u16, random.below(2) as u16);
     let limit = *random.pick(&[0, 1, 2, 5, 30]);
     settings::around_one(bits, limit, kind, random)
 }

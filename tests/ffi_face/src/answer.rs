@@ -3,9 +3,9 @@ use std::fmt;
 
 /// The answer of an exported function: code + 2^32 × (rounds + 2^8 × (failing + 2^12 × changed)).
 ///
-/// The code is 0 for decoded, accepted, counted, quantised, built, read or stored, 1 for failed, 2 for
-/// working, else the refusal's number × 65,536 + its place. A refusal has rounds, failing and changed
-/// 0. A stored sheet has its number of bytes in their place, 2^32 times.
+/// The code is 0 for decoded, accepted, counted, quantised, brought over, taken back, built, read or
+/// stored, 1 for failed, 2 for working, else the refusal's number × 65,536 + its place. A refusal has
+/// rounds, failing and changed 0. A stored sheet has its number of bytes in their place, 2^32 times.
 #[derive(Clone, Copy, PartialEq, Eq)]
 pub struct Packed(pub u64);
 
@@ -16,8 +16,8 @@ impl Packed {
         Packed(code + (1 << 32) * (rounds + (1 << 8) * (failing + (1 << 12) * changed)))
     }
 
-    /// What the library is to answer where the reference checks a matrix, quantises, builds an index
-    /// or reads a sheet.
+    /// What the library is to answer where the reference checks a matrix, quantises, brings levels over,
+    /// takes them back, builds an index or reads a sheet.
     pub fn of_check(answer: Result<(), Refusal>) -> Packed {
         answer.map_or_else(Packed::refused, |()| Packed::new(0, 0, 0, 0))
     }

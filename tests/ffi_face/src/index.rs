@@ -47,7 +47,7 @@ extern "C" {
         samples_len: usize,
         word: *mut u8,
         word_len: usize,
-        levels: *mut i8,
+        levels: *mut i16,
         levels_len: usize,
     ) -> u64;
 }
@@ -97,7 +97,7 @@ pub fn iterative_indexed(
     setting: &Setting,
     samples: &[f32],
     word: &mut [u8],
-    levels: &mut [i8],
+    levels: &mut [i16],
 ) -> Packed {
     // SAFETY: as above.
     Packed(unsafe {

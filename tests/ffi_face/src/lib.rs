@@ -3,8 +3,8 @@
 //! A slice crosses as two scalars, a pointer and the number of elements; a Rust slice in the
 //! declaration itself would be passed in another way. A later function is one declaration and
 //! one wrapper. The features `samples`, `session`, `index` and `sheet` declare the functions that
-//! start from samples, the session's, those that build an index or are lent one, and those that read
-//! and write circulant sheets.
+//! start from samples and those between the widths of stored levels, the session's, those that build
+//! an index or are lent one, and those that read and write circulant sheets.
 
 mod answer;
 #[cfg(feature = "index")]
@@ -15,6 +15,8 @@ mod samples;
 mod session;
 #[cfg(feature = "sheet")]
 mod sheet;
+#[cfg(feature = "samples")]
+mod widths;
 
 pub use answer::Packed;
 #[cfg(feature = "index")]
@@ -26,6 +28,8 @@ pub use samples::{iterative, quantise};
 pub use session::{cells_of, open, record_of, step};
 #[cfg(feature = "sheet")]
 pub use sheet::{list_to_sheet, sheet_to_list};
+#[cfg(feature = "samples")]
+pub use widths::{narrow, widen};
 
 extern "C" {
     fn mlgd_check(n: u16, m: u16, rho: u16, gamma: u16, list: *const u16, list_len: usize) -> u64;

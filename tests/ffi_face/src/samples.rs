@@ -11,7 +11,7 @@ extern "C" {
         step: f32,
         samples: *const f32,
         samples_len: usize,
-        levels: *mut i8,
+        levels: *mut i16,
         levels_len: usize,
         word: *mut u8,
         word_len: usize,
@@ -32,13 +32,13 @@ extern "C" {
         samples_len: usize,
         word: *mut u8,
         word_len: usize,
-        levels: *mut i8,
+        levels: *mut i16,
         levels_len: usize,
     ) -> u64;
 }
 
 /// The quantiser alone.
-pub fn quantise(setting: &Setting, samples: &[f32], levels: &mut [i8], word: &mut [u8]) -> Packed {
+pub fn quantise(setting: &Setting, samples: &[f32], levels: &mut [i16], word: &mut [u8]) -> Packed {
     // SAFETY: as in the crate's root: any setting, any samples and any lengths are accepted.
     Packed(unsafe {
         mlgd_quantise(
@@ -62,7 +62,7 @@ pub fn iterative(
     setting: &Setting,
     samples: &[f32],
     word: &mut [u8],
-    levels: &mut [i8],
+    levels: &mut [i16],
 ) -> Packed {
     // SAFETY: as above.
     Packed(unsafe {

@@ -22,7 +22,7 @@ extern "C" {
         samples_len: usize,
         word: *mut u8,
         word_len: usize,
-        levels: *mut i8,
+        levels: *mut i16,
         levels_len: usize,
     ) -> u64;
 
@@ -37,11 +37,11 @@ extern "C" {
         list_len: usize,
         received: *const u8,
         received_len: usize,
-        opened: *const i8,
+        opened: *const i16,
         opened_len: usize,
         word: *mut u8,
         word_len: usize,
-        levels: *mut i8,
+        levels: *mut i16,
         levels_len: usize,
     ) -> u64;
 }
@@ -53,7 +53,7 @@ pub fn open(
     setting: &Setting,
     samples: &[f32],
     word: &mut [u8],
-    levels: &mut [i8],
+    levels: &mut [i16],
 ) -> Packed {
     // SAFETY: as in the crate's root: any record, any setting and any lengths are accepted.
     Packed(unsafe {
@@ -85,9 +85,9 @@ pub fn step(
     record: &mut [u16],
     h: LentMatrix,
     received: &[u8],
-    opened: &[i8],
+    opened: &[i16],
     word: &mut [u8],
-    levels: &mut [i8],
+    levels: &mut [i16],
 ) -> Packed {
     // SAFETY: as above.
     Packed(unsafe {

@@ -49,7 +49,7 @@ impl Case {
             step: setting.step.to_bits(),
             samples: stream::block(samples),
             word: vec![FILLING; byte_count(h.n)],
-            levels: vec![FILLING; usize::from(h.n)],
+            levels: vec![FILLING; 2 * usize::from(h.n)],
             report: vec![FILLING; 8],
         }
     }

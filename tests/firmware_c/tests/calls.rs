@@ -3,8 +3,7 @@
 
 use firmware_c::{cases, hexadecimal, random, Case, Workshop};
 use generator::codes::{self, Code};
-use generator::{damage, inputs, settings, unlike, Random};
-use reference::Setting;
+use generator::{damage, inputs, patterns, settings, unlike, Codewords, Random};
 use std::path::PathBuf;
 use std::sync::OnceLock;
 
@@ -35,9 +34,14 @@ fn worked() {
     let a = codes::code_a();
     let p7 = Case::new(&a, &settings::level_step(3, 0, 0.5), &P6);
     let p8 = Case::new(&a, &settings::level_step(3, 5, 0.5), &[0.1; 7]);
-    assert_eq!(p6().line(), "0 x00 xfefdfdfdfdfdfd x0100000001000000 kept");
-    assert_eq!(p7.line(), "1 x80 x01fefefefefefe x0000030000000000 kept");
-    assert_eq!(p8.line(), "0 x00 xfdfdfdfdfdfdfd x0100000000000000 kept");
+    let six = |level: &str| level.repeat(6);
+    let p6_line = format!("0 x00 xfeff{} x0100000001000000 kept", six("fdff"));
+    let p7_line = format!("1 x80 x0100{} x0000030000000000 kept", six("feff"));
+    let p8_line = format!("0 x00 xfdff{} x0100000000000000 kept", six("fdff"));
+    assert_eq!(
+        [p6(), p7.clone(), p8.clone()].map(|case| case.line()),
+        [p6_line, p7_line, p8_line]
+    );
     compare("worked", &[p6(), p7, p8]);
 }
 
@@ -55,7 +59,7 @@ fn lengths() {
     vary("list", 2 * 21 + 5, |case| &mut case.list);
     vary("samples", 4 * 7 + 9, |case| &mut case.samples);
     vary("word", 4, |case| &mut case.word);
-    vary("levels", 10, |case| &mut case.levels);
+    vary("levels", 2 * 7 + 5, |case| &mut case.levels);
     vary("report", 11, |case| &mut case.report);
     let refused = |number: u32| {
         let begin = format!("{} ", number * 65536);
@@ -64,7 +68,7 @@ fn lengths() {
             .filter(|case| case.line().starts_with(&begin))
             .count()
     };
-    assert_eq!((refused(2), refused(7)), (47, 37 + 1 + 7 + 8));
+    assert_eq!((refused(2), refused(7)), (47, 37 + 1 + 14 + 8));
     compare("lengths", &cases);
 }
 
@@ -105,21 +109,118 @@ fn steps() {
     compare("steps", &cases);
 }
 
-/// Each level from −127 to 127 through the bytes: EG255 has a sample for each.
+/// Each level from −L to L through the bytes, for every width: in blocks of EG255, with a sample of step
+/// 0.5 for each. No round is done, so that the levels are the samples'.
 #[test]
 fn levels() {
-    let samples: Vec<f32> = (-127..=127).map(|level| level as f32 * 0.5).collect();
     let code = codes::euclidean(4);
-    let case = Case::new(&code, &settings::level_step(8, 0, 0.5), &samples);
-    let expected: Vec<u8> = (129..=255).chain(0..=127).collect();
+    let mut cases = Vec::new();
+    for bits in 2..=12 {
+        let largest = (1 << (bits - 1)) - 1;
+        let all: Vec<i32> = (-largest..=largest).collect();
+        for some in all.chunks(255) {
+            let levels: Vec<i32> = some.iter().copied().cycle().take(255).collect();
+            let samples: Vec<f32> = levels.iter().map(|&level| level as f32 * 0.5).collect();
+            let case = Case::new(&code, &settings::level_step(bits, 0, 0.5), &samples);
+            // A level below 0 is the number 65,536 above it.
+            let number = |&level: &i32| (if level < 0 { 65_536 + level } else { level }) as u32;
+            let two = |number: u32| [(number % 256) as u8, (number / 256) as u8];
+            let expected: Vec<u8> = levels.iter().map(number).flat_map(two).collect();
+            let line = case.line();
+            assert_eq!(
+                line.split(' ').nth(2),
+                Some(format!("x{}", hexadecimal(&expected)).as_str())
+            );
+            let full = largest as f32 * 0.5;
+            let scaled = Case::new(&code, &settings::full_scale(bits, 0, full), &samples);
+            assert_eq!(scaled.line(), line);
+            cases.extend([case, scaled]);
+        }
+    }
+    // One block for each width up to 8 bits; then 511, 1,023, 2,047 and 4,095 levels.
+    assert_eq!(cases.len(), 2 * (7 + 3 + 5 + 9 + 17));
+    compare("levels", &cases);
+}
+
+/// Widths on both sides of each end, with every limit at an end; each with a level buffer that is just
+/// long enough, a byte short, and one and two bytes longer, whose last bytes stay.
+#[test]
+fn widths() {
+    let mut cases = Vec::new();
+    for bits in [
+        0, 1, 2, 3, 7, 8, 9, 10, 11, 12, 13, 14, 16, 255, 256, 264, 265, 268, 65_535,
+    ] {
+        for limit in [0, 255, 256] {
+            for bytes in [13, 14, 15, 16] {
+                let more = format!("bits {bits}, limit {limit}, {bytes} bytes for levels");
+                let mut case = p6().named(&more);
+                (case.bits, case.limit) = (bits, limit);
+                case.levels.resize(bytes, 0x77);
+                let expected = match bytes {
+                    _ if !(2..=12).contains(&bits) || limit == 256 => 6,
+                    13 => 7,
+                    _ => 0,
+                };
+                assert_eq!(number(&case), expected, "{}", case.name);
+                let line = case.line();
+                let levels = line.split(' ').nth(2).expect("the levels");
+                assert!(
+                    levels.ends_with(&"77".repeat(bytes.saturating_sub(14))),
+                    "{line}"
+                );
+                cases.push(case);
+            }
+        }
+    }
+    compare("widths", &cases);
+}
+
+/// The levels that a case leaves by the reference.
+fn levels_of(case: &Case) -> Vec<i32> {
     let line = case.line();
-    assert_eq!(
-        line.split(' ').nth(2),
-        Some(format!("x{}", hexadecimal(&expected)).as_str())
-    );
-    let scaled = Case::new(&code, &settings::full_scale(8, 0, 63.5), &samples);
-    assert_eq!(scaled.line(), line);
-    compare("levels", &[case, scaled]);
+    let digits = &line.split(' ').nth(2).expect("the levels")[1..];
+    let byte = |at: usize| u8::from_str_radix(&digits[at..at + 2], 16).expect("a byte");
+    (0..digits.len())
+        .step_by(4)
+        .map(|at| i16::from_le_bytes([byte(at), byte(at + 2)]).into())
+        .collect()
+}
+
+/// Rounds at every width, after which levels are cut at both ends: EG255 with five wrong samples. The
+/// samples' levels are even, and as each bit has 16 checks, so are the sums: L, which is odd, is first met
+/// where a sum lay beyond it.
+#[test]
+fn cut_levels() {
+    let mut random = random(3203);
+    let code = codes::euclidean(4);
+    let codewords = Codewords::of(&code.matrix);
+    let mut cases = Vec::new();
+    for bits in 2..=12 {
+        let largest: i32 = (1 << (bits - 1)) - 1;
+        let received = patterns::flipped(&codewords.random(&mut random), &random.different(5, 255));
+        let samples: Vec<f32> = received
+            .iter()
+            .map(|&bit| {
+                let level = largest - 1 - 2 * random.below(3) as i32;
+                // A quarter of a step more leaves the level, and gives a level of 0 its bit.
+                let size = level.max(0) as f32 + 0.25;
+                if bit {
+                    size
+                } else {
+                    -size
+                }
+            })
+            .collect();
+        let opened = Case::new(&code, &settings::level_step(bits, 0, 1.0), &samples);
+        let even_and_short = |level: &i32| level % 2 == 0 && level.abs() < largest;
+        assert!(levels_of(&opened).iter().all(even_and_short));
+        let case = Case::new(&code, &settings::level_step(bits, 3, 1.0), &samples);
+        let levels = levels_of(&case);
+        let ends = (levels.iter().min(), levels.iter().max());
+        assert_eq!(ends, (Some(&-largest), Some(&largest)), "{bits}");
+        cases.push(case);
+    }
+    compare("cut_levels", &cases);
 }
 
 /// The refusal's number by the reference.
@@ -175,14 +276,14 @@ fn disturb(case: &mut Case, random: &mut Random) {
         4 => case.report.resize(changed(case.report.len(), random), 0x77),
         5 => case.step = random.number() as u32,
         6 => case.kind = random.below(4) as u16,
-        7 => case.bits = random.below(11) as u16,
+        7 => case.bits = random.below(15) as u16,
         _ => case.limit = *random.pick(&[0, 254, 255, 256, 65_535]),
     }
 }
 
 /// A call with a code and a setting by chance, and perhaps a damaged matrix or another fault.
 fn some(code: &Code, random: &mut Random) -> Case {
-    let (bits, kind) = (2 + random.below(7) as u16, random.below(2) as u16);
+    let (bits, kind) = (2 + random.below(11) as u16, random.below(2) as u16);
     let limit = *random.pick(&[0, 1, 2, 5, 30, 255]);
     let setting = settings::around_one(bits, limit, kind, random);
     let block = inputs::blocks(code, 1, 1.0, random).remove(0);
@@ -221,12 +322,11 @@ fn large() {
     for code in [codes::eg1023(), codes::qc961(), unlike::irregular1000()] {
         let n = usize::from(code.matrix.n);
         let samples: Vec<f32> = (0..n).map(|_| random.gaussian() as f32).collect();
-        for limit in [0, 3] {
-            let setting = Setting {
-                limit,
-                ..settings::level_step(8, 0, 0.25)
-            };
-            cases.push(Case::new(&code, &setting, &samples));
+        for (bits, step) in [(8, 0.25), (12, 0.25 / 16.0)] {
+            for limit in [0, 3] {
+                let setting = settings::level_step(bits, limit, step);
+                cases.push(Case::new(&code, &setting, &samples));
+            }
         }
     }
     let high_bytes = |case: &Case| {

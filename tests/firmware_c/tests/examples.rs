@@ -1,7 +1,9 @@
 //! The examples in C and Python, built and linked as their heads say, and what `make install`
 //! leaves.
 
-use firmware_c::{is_there, left_out, printed, root, Workshop, STRICT};
+use firmware_c::{hexadecimal, is_there, left_out, printed, root, Workshop, STRICT};
+use generator::{codes, settings};
+use reference::{iterative, Outcome, Setting};
 use std::fs;
 use std::path::Path;
 use std::process::Command;
@@ -15,6 +17,47 @@ fn workshop(name: &str) -> Workshop {
 /// What every example prints.
 fn expected() -> String {
     fs::read_to_string(root().join("examples/firmware.txt")).expect("examples/firmware.txt")
+}
+
+/// The line of a block of code A, by the reference.
+fn line(name: &str, setting: Setting, samples: &[f32]) -> String {
+    let (mut word, mut levels) = ([0xEE], [0x7777; 7]);
+    let h = codes::code_a().matrix;
+    let answer = match iterative(&h, &setting, samples, &mut word, &mut levels) {
+        Ok(answer) => answer,
+        Err(refusal) => {
+            assert_eq!((word, levels), ([0xEE], [0x7777; 7]));
+            let (number, place) = (refusal.number, refusal.place);
+            return format!("{name}: refused {number} at {place}, nothing written\n");
+        }
+    };
+    let outcome = match answer.outcome {
+        Outcome::Decoded => "decoded",
+        _ => "failed",
+    };
+    let (rounds, failing, changed) = (answer.rounds, answer.failing, answer.changed);
+    let counts = format!("rounds {rounds}, failing {failing}, changed {changed}");
+    let (word, levels) = (hexadecimal(&word), levels.map(|level| level.to_string()));
+    format!(
+        "{name}: {outcome}, {counts}, word {word}, levels {}\n",
+        levels.join(" ")
+    )
+}
+
+/// The stored lines are the reference's, and the fine levels are numbers that no byte holds.
+#[test]
+fn stored() {
+    let coarse = settings::level_step(3, 5, 0.5);
+    let fine = settings::level_step(12, 255, 0.5 / 512.0);
+    let none = settings::level_step(3, 0, 0.5);
+    let mut samples = [0.5, -1.0, -1.0, -1.0, -1.0, -1.0, -1.0];
+    let mut lines = line("limit 5", coarse, &samples);
+    lines += &line("12 bits", fine, &samples);
+    lines += &line("limit 0", none, &samples);
+    samples[4] = f32::NAN;
+    lines += &line("sample 4 not a number", coarse, &samples);
+    assert_eq!(expected(), lines);
+    assert!(lines.contains(" -1195"), "{lines}");
 }
 
 /// Compiles the example in C with these words for the header and the archive, and runs it.

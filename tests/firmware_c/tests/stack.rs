@@ -34,7 +34,7 @@ fn overlapping(random: &mut Random) -> Code {
 }
 
 /// Large matrices and a small one: blocks that fail after several rounds. The largest: one that is
-/// decoded, one refused for its last sample, and overlapping rows.
+/// decoded, the same with the finest levels, one refused for its last sample, and overlapping rows.
 fn calls(random: &mut Random) -> Vec<(u64, Case)> {
     let setting = settings::level_step(8, 20, 0.25);
     let mut calls = Vec::new();
@@ -52,6 +52,8 @@ fn calls(random: &mut Random) -> Vec<(u64, Case)> {
     let mut block = vec![-1.0; 1023];
     block[..16].fill(9.0);
     calls.push((0, Case::new(&code, &setting, &block)));
+    let finest = settings::level_step(12, 255, 0.25);
+    calls.push((0, Case::new(&code, &finest, &block)));
     block[1022] = f32::NAN;
     calls.push((8, Case::new(&code, &setting, &block)));
     calls.push((5, Case::new(&overlapping(random), &setting, &block)));

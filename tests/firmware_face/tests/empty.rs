@@ -43,12 +43,12 @@ fn empty_slices() {
     assert_eq!(nothing_lent(&no_samples), 0x7_0000);
     assert_eq!(nothing_lent(&CALL), 0x7_0000);
 
-    let (mut word, mut levels, mut report) = ([9], [9; 3], [9; 8]);
+    let (mut word, mut levels, mut report) = ([9], [9; 6], [9; 8]);
     let returned = decode(&no_samples, &mut word, &mut levels, &mut report);
     assert_eq!(
         (returned, word, levels, report),
-        (0x7_0000, [9], [9; 3], [9; 8])
+        (0x7_0000, [9], [9; 6], [9; 8])
     );
     let returned = decode(&CALL, &mut word, &mut levels, &mut report);
-    assert_eq!((returned, word, levels, report), (0, [0], [0; 3], [0; 8]));
+    assert_eq!((returned, word, levels, report), (0, [0], [0; 6], [0; 8]));
 }

@@ -58,7 +58,7 @@ pub fn whole_runs(random: &mut Random) -> Vec<Named> {
     let mut all = [codes::small(), codes::medium()].concat();
     all.extend([codes::single_row(3).copies(341), codes::cycle(1023)]);
     for (at, code) in all.iter().enumerate() {
-        let (bits, kind) = (2 + (at % 7) as u16, (at / 7 % 2) as u16);
+        let (bits, kind) = (2 + (at % 11) as u16, (at / 11 % 2) as u16);
         let limit = *random.pick(&[0, 1, 2, 5, 30, 255]);
         let setting = settings::around_one(bits, limit, kind, random);
         inputs.push(of_code(code, &setting, random.below(8), random));

@@ -1,8 +1,9 @@
 //! Inputs for the tests and the benchmark, the same for the same seed: accepted parity-check
 //! matrices of many kinds, their codewords, error patterns, noise, damaged matrices, circulant
-//! sheets, and the program's input.
+//! sheets, the program's input, and blocks whose answers were stored.
 
 pub mod alist;
+pub mod before;
 pub mod codes;
 pub mod codewords;
 pub mod damage;

@@ -39,7 +39,7 @@ pub fn some_step(random: &mut Random) -> f32 {
 /// An accepted setting by chance.
 pub fn some(random: &mut Random) -> Setting {
     Setting {
-        bits: 2 + random.below(7) as u16,
+        bits: 2 + random.below(11) as u16,
         limit: random.below(256) as u16,
         kind: random.below(2) as u16,
         step: some_step(random),
@@ -49,7 +49,9 @@ pub fn some(random: &mut Random) -> Setting {
 /// Settings that are refused, each for one part alone.
 pub fn refused(good: &Setting) -> Vec<Setting> {
     let mut refused = Vec::new();
-    for bits in [0, 1, 9, 10, 16, 255, 256, 258, 264, 32_770, 65_535] {
+    for bits in [
+        0, 1, 13, 14, 16, 255, 256, 258, 264, 268, 32_770, 32_780, 65_535,
+    ] {
         refused.push(Setting { bits, ..*good });
     }
     for limit in [256, 257, 260, 511, 512, 32_768, 65_280, 65_535] {

@@ -98,8 +98,56 @@ fn large_codes() {
                 noise::received(&sent, deviation, &mut random)
             })
             .collect();
-        let setting = settings::level_step(8, 30, step);
-        program.compare(&code.name, &stream::input(&code.matrix, &setting, &blocks));
+        // The same levels by their share of L.
+        for (bits, step) in [(8, step), (12, step / 16.0)] {
+            let setting = settings::level_step(bits, 30, step);
+            let name = format!("{}, {bits} bits", code.name);
+            program.compare(&name, &stream::input(&code.matrix, &setting, &blocks));
+        }
+    }
+}
+
+/// The width is 2 to 12: any other is refusal 6, whatever the byte.
+#[test]
+fn widths() {
+    let Some(program) = Program::find() else {
+        return;
+    };
+    let samples = vec![0.5, -1.0, -1.0, -1.0, -1.0, -1.0, -1.0];
+    for bits in 0..=255 {
+        let setting = settings::level_step(bits, 255, 0.5);
+        let input = stream::input(&codes::code_a().matrix, &setting, &[samples.clone()]);
+        let line = match bits {
+            2..=12 => "0 decoded 1 0 1 00",
+            _ => "refused 6 0",
+        };
+        let expected = format!("block end rounds failing changed word\n{line}\n");
+        let printed = program.printed(&input);
+        assert_same(&format!("{bits} bits"), &printed, expected.as_bytes());
+    }
+}
+
+/// Blocks at each width from 8 on, both kinds of step, with rounds until a level is cut and without; the
+/// largest level is a byte's, then more than one.
+#[test]
+fn finer_levels() {
+    let Some(program) = Program::find() else {
+        return;
+    };
+    let mut random = Random::new(46);
+    for bits in 8..=12 {
+        for (at, code) in [codes::small(), codes::medium()]
+            .concat()
+            .iter()
+            .enumerate()
+        {
+            let kind = (at % 2) as u16;
+            let limit = *random.pick(&[0, 1, 5, 30, 100, 255]);
+            let setting = settings::around_one(bits, limit, kind, &mut random);
+            let blocks = inputs::blocks(code, 3, 1.0, &mut random);
+            let name = format!("{}, {setting:?}", code.name);
+            program.compare(&name, &stream::input(&code.matrix, &setting, &blocks));
+        }
     }
 }
 
@@ -116,10 +164,11 @@ fn every_cut_point() {
     for cut in 0..=input.len() {
         program.compare(&format!("cut at {cut}"), &input[..cut]);
     }
-    // The same of a head that is refused: n is 255, an entry is above the next, the kind is 2.
+    // The same of a head that is refused: n is 255, an entry is above the next, b is 13, the kind is 2.
     for (at, byte, line) in [
         (0, 255, "refused 1 0"),
         (14, 3, "refused 3 4"),
+        (50, 13, "refused 6 0"),
         (52, 2, "refused 6 0"),
     ] {
         let mut refused = input.clone();

@@ -1,4 +1,4 @@
-//! Document 02, card 3: the iterative decoder as the firmware calls it, over numbers and bytes.
+//! Document 02, cards 3 and 7: the iterative decoder as the firmware calls it, over numbers and bytes.
 
 use crate::matrix::sizes_fit;
 use crate::numbers::{number_bytes, numbers};
@@ -25,6 +25,9 @@ pub struct Call<'a> {
 
 /// "An eight-byte report".
 const REPORT_BYTES: usize = 8;
+
+/// Card 7: "two bytes a level".
+const LEVEL_BYTES: usize = 2;
 
 /// "low-byte-first single floats". The last bytes, where fewer than four, are no sample.
 fn samples(bytes: &[u8]) -> Vec<f32> {
@@ -63,7 +66,7 @@ fn lengths_fit(call: &Call, word: &[u8], levels: &[u8], report: &[u8]) -> Result
     let n = usize::from(call.n);
     if call.samples.len() != 4 * n
         || word.len() < byte_count(call.n)
-        || levels.len() < n
+        || levels.len() < LEVEL_BYTES * n
         || report.len() < REPORT_BYTES
     {
         return Err(Refusal::plain(7));
@@ -71,11 +74,12 @@ fn lengths_fit(call: &Call, word: &[u8], levels: &[u8], report: &[u8]) -> Result
     Ok(())
 }
 
-/// "levels leave as one byte each in two's complement."
-fn level_byte(level: i8) -> u8 {
+/// "levels leave as one byte each in two's complement." Card 7: "The C face writes two bytes a level,
+/// low byte first."
+fn level_bytes(level: i16) -> [u8; LEVEL_BYTES] {
     let level = i32::from(level);
-    let byte = if level < 0 { 256 + level } else { level };
-    byte as u8
+    let number = if level < 0 { 65_536 + level } else { level };
+    number_bytes(number as usize)
 }
 
 /// "takes rounds, failing, changed and a zero, 16 bits each, low byte first."
@@ -103,8 +107,8 @@ fn decode_accepted(
     lengths_fit(call, word, levels, report)?;
     let mut own = vec![0; usize::from(h.n)];
     let answer = iterative_accepted(h, &setting, &samples(call.samples), word, &mut own)?;
-    for (byte, &level) in levels.iter_mut().zip(&own) {
-        *byte = level_byte(level);
+    for (bytes, &level) in levels.chunks_exact_mut(LEVEL_BYTES).zip(&own) {
+        bytes.copy_from_slice(&level_bytes(level));
     }
     report[..REPORT_BYTES].copy_from_slice(&report_bytes(&answer));
     Ok(answer.outcome)

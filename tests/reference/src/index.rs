@@ -62,7 +62,7 @@ pub fn iterative_indexed(
     setting: &Setting,
     samples: &[f32],
     word: &mut [u8],
-    levels: &mut [i8],
+    levels: &mut [i16],
 ) -> Result<Answer, Refusal> {
     check(h)?;
     trust_index(&index_of(h), lent)?;

@@ -1,5 +1,5 @@
 use crate::answer::decided_positions_that_differ;
-use crate::quantiser::{check_setting, hard_bit, largest_level, level, samples_are_finite};
+use crate::quantiser::{check_setting, hard_bit, largest_level, level, samples_are_finite, stored};
 use crate::{byte_count, check, failing_checks, pack, Answer, Matrix, Outcome, Refusal, Setting};
 
 /// "z is the word, R the stored level of each bit, k the round."
@@ -68,11 +68,11 @@ impl Voting {
 
     /// "The word is written in either outcome. Iterative voting also writes R as it then stands.
     /// Bytes and levels beyond the first needed ones stay."
-    pub(crate) fn write(&self, word: &mut [u8], levels: &mut [i8]) {
+    pub(crate) fn write(&self, word: &mut [u8], levels: &mut [i16]) {
         let bytes = pack(&self.z);
         word[..bytes.len()].copy_from_slice(&bytes);
         for (cell, &r) in levels.iter_mut().zip(&self.r) {
-            *cell = r as i8;
+            *cell = stored(r);
         }
     }
 }
@@ -102,7 +102,7 @@ pub(crate) fn buffers_fit(
     h: &Matrix,
     samples: &[f32],
     word: &[u8],
-    levels: &[i8],
+    levels: &[i16],
 ) -> Result<(), Refusal> {
     let n = usize::from(h.n);
     if samples.len() != n || word.len() < byte_count(h.n) || levels.len() < n {
@@ -117,7 +117,7 @@ pub fn iterative(
     setting: &Setting,
     samples: &[f32],
     word: &mut [u8],
-    levels: &mut [i8],
+    levels: &mut [i16],
 ) -> Result<Answer, Refusal> {
     check(h)?;
     iterative_accepted(h, setting, samples, word, levels)
@@ -129,7 +129,7 @@ pub fn iterative_accepted(
     setting: &Setting,
     samples: &[f32],
     word: &mut [u8],
-    levels: &mut [i8],
+    levels: &mut [i16],
 ) -> Result<Answer, Refusal> {
     check_setting(setting)?;
     buffers_fit(h, samples, word, levels)?;

@@ -1,4 +1,4 @@
-//! The literal decoder of document 01 and of cards 1 to 6 of document 02, a second opinion for the
+//! The literal decoder of document 01 and of cards 1 to 7 of document 02, a second opinion for the
 //! tests.
 //!
 //! Each function is one passage of a document, done the slow way it is said: all rows are
@@ -22,6 +22,7 @@ mod refusal;
 mod session;
 mod sheet;
 mod whole;
+mod widths;
 mod word;
 
 pub use answer::{Answer, Outcome};
@@ -38,4 +39,5 @@ pub use sheet::{
     list_to_sheet, matrix_of_sheet, sheet_of, sheet_of_accepted, sheet_to_list, write_matrix,
     write_sheet,
 };
+pub use widths::{narrow, widen};
 pub use word::{byte_count, pack, unpack};

@@ -56,7 +56,7 @@ pub fn open(
     setting: &Setting,
     samples: &[f32],
     word: &mut [u8],
-    levels: &mut [i8],
+    levels: &mut [i16],
 ) -> Result<Answer, Refusal> {
     open_checked(record, h, check(h), setting, samples, word, levels)
 }
@@ -69,7 +69,7 @@ pub fn open_checked(
     setting: &Setting,
     samples: &[f32],
     word: &mut [u8],
-    levels: &mut [i8],
+    levels: &mut [i16],
 ) -> Result<Answer, Refusal> {
     verdict?;
     check_setting(setting)?;
@@ -120,7 +120,7 @@ fn sizes_are_the_records(record: &Session, h: &Matrix) -> Result<(), Refusal> {
 
 /// "7: [..] or a written buffer shorter than needed." Card 6, of the levels the opening wrote: "a
 /// wrong length of those is 7, and what they hold is never refused."
-fn levels_fit(h: &Matrix, opened: &[i8], levels: &[i8]) -> Result<(), Refusal> {
+fn levels_fit(h: &Matrix, opened: &[i16], levels: &[i16]) -> Result<(), Refusal> {
     let n = usize::from(h.n);
     if opened.len() != n || levels.len() < n {
         return Err(Refusal::plain(7));
@@ -129,7 +129,7 @@ fn levels_fit(h: &Matrix, opened: &[i8], levels: &[i8]) -> Result<(), Refusal> {
 }
 
 /// "23: a spare place set in the current word, or a level beyond ±L among the first n."
-fn current_fits(record: &Session, word: &[u8], levels: &[i8]) -> Result<(), Refusal> {
+fn current_fits(record: &Session, word: &[u8], levels: &[i16]) -> Result<(), Refusal> {
     let largest = largest_level(record.bits);
     let beyond = levels[..usize::from(record.n)]
         .iter()
@@ -148,9 +148,9 @@ pub fn step(
     record: &mut Session,
     h: &Matrix,
     received: &[u8],
-    opened: &[i8],
+    opened: &[i16],
     word: &mut [u8],
-    levels: &mut [i8],
+    levels: &mut [i16],
 ) -> Result<Answer, Refusal> {
     step_checked(record, h, check(h), received, opened, word, levels)
 }
@@ -161,9 +161,9 @@ pub fn step_checked(
     h: &Matrix,
     verdict: Result<(), Refusal>,
     received: &[u8],
-    opened: &[i8],
+    opened: &[i16],
     word: &mut [u8],
-    levels: &mut [i8],
+    levels: &mut [i16],
 ) -> Result<Answer, Refusal> {
     record_is_working(record)?;
     verdict?;
@@ -174,7 +174,7 @@ pub fn step_checked(
     current_fits(record, word, levels)?;
 
     let n = usize::from(h.n);
-    let numbers = |levels: &[i8]| levels.iter().map(|&r| i32::from(r)).collect();
+    let numbers = |levels: &[i16]| levels.iter().map(|&r| i32::from(r)).collect();
     let opened: Vec<i32> = numbers(opened);
     let mut voting = Voting {
         k: usize::from(record.k),

@@ -4,8 +4,8 @@ use std::cmp::Ordering;
 
 /// A whole number below 2^320, as ten digits of 32 bits, the lowest first.
 ///
-/// The largest float is below 2^128, which is 2^277 here, and it is multiplied by at most 254:
-/// 320 places are enough, and `times` asserts it.
+/// The largest float is below 2^128, which is 2^277 here, and it is multiplied by at most
+/// 4,094, twice the largest level: 320 places are enough, and `times` asserts it.
 #[derive(Clone, Copy, Debug, PartialEq, Eq)]
 pub(crate) struct Whole([u32; 10]);
 
@@ -109,6 +109,6 @@ mod tests {
         }
         assert_eq!(of(0.375), of(0.125).times(3));
         assert_eq!(of(127.0), of(1.0).times(127));
-        assert!(of(f32::MAX).times(254) > of(f32::MAX).times(253));
+        assert!(of(f32::MAX).times(4094) > of(f32::MAX).times(4093));
     }
 }

@@ -1,4 +1,4 @@
-//! Document 02, card 3: P6 to P8 of document 01 through the bytes, and a refusal of each number.
+//! Document 02, cards 3 and 7: P6 to P8 of document 01 through the bytes, and a refusal of each number.
 //! The bytes are written out by hand.
 
 use reference::firmware::{decode, Call};
@@ -60,15 +60,15 @@ const P6: Call = Call {
 const LENT: u8 = 0xA5;
 
 /// The number, and the byte of the word, seven levels and the report, in buffers that are longer.
-fn decoded(call: &Call) -> (u32, u8, [u8; 7], [u8; 8]) {
-    let (mut word, mut levels, mut report) = ([LENT; 3], [LENT; 9], [LENT; 11]);
+fn decoded(call: &Call) -> (u32, u8, [[u8; 2]; 7], [u8; 8]) {
+    let (mut word, mut levels, mut report) = ([LENT; 3], [LENT; 17], [LENT; 11]);
     let number = decode(call, &mut word, &mut levels, &mut report);
     assert_eq!(word[1..], [LENT; 2]);
-    assert_eq!(levels[7..], [LENT; 2]);
+    assert_eq!(levels[14..], [LENT; 3]);
     assert_eq!(report[8..], [LENT; 3]);
-    let first = |bytes: &[u8]| bytes.try_into().expect("seven bytes");
+    let seven = std::array::from_fn(|j| [levels[2 * j], levels[2 * j + 1]]);
     let eight = report[..8].try_into().expect("eight bytes");
-    (number, word[0], first(&levels[..7]), eight)
+    (number, word[0], seven, eight)
 }
 
 /// The number of a refused call. None of the three buffers is written.
@@ -81,13 +81,17 @@ fn refused_into<const W: usize, const L: usize, const R: usize>(call: &Call) -> 
 
 /// The same with buffers that fit.
 fn refused(call: &Call) -> u32 {
-    refused_into::<1, 7, 8>(call)
+    refused_into::<1, 14, 8>(call)
 }
 
-/// "00, decoded, rounds 1, changed 1, levels −2 and six times −3": FE and FD in two's complement.
+/// The two bytes of 0, −1, −2 and −3: "two bytes a level, low byte first".
+const MINUS: [[u8; 2]; 4] = [[0x00, 0x00], [0xFF, 0xFF], [0xFE, 0xFF], [0xFD, 0xFF]];
+
+/// "00, decoded, rounds 1, changed 1, levels −2 and six times −3": FFFE and FFFD in two's complement.
 #[test]
 fn p6() {
-    let levels = [0xFE, 0xFD, 0xFD, 0xFD, 0xFD, 0xFD, 0xFD];
+    let three = MINUS[3];
+    let levels = [MINUS[2], three, three, three, three, three, three];
     let report = [1, 0, 0, 0, 1, 0, 0, 0];
     assert_eq!(decoded(&P6), (0, 0x00, levels, report));
 }
@@ -96,7 +100,8 @@ fn p6() {
 #[test]
 fn p7() {
     let p7 = Call { limit: 0, ..P6 };
-    let levels = [0x01, 0xFE, 0xFE, 0xFE, 0xFE, 0xFE, 0xFE];
+    let two = MINUS[2];
+    let levels = [[0x01, 0x00], two, two, two, two, two, two];
     let report = [0, 0, 3, 0, 0, 0, 0, 0];
     assert_eq!(decoded(&p7), (1, 0x80, levels, report));
 }
@@ -110,7 +115,7 @@ fn p8() {
         ..P6
     };
     let report = [1, 0, 0, 0, 0, 0, 0, 0];
-    assert_eq!(decoded(&p8), (0, 0x00, [0xFD; 7], report));
+    assert_eq!(decoded(&p8), (0, 0x00, [MINUS[3]; 7], report));
 }
 
 /// Refusals 1 to 5. 1 × 65,536 = 0x1_0000, and so on.
@@ -141,7 +146,7 @@ fn refusals_of_the_matrix() {
 /// Refusals 6, 7 and 8.
 #[test]
 fn refusals_of_the_block() {
-    assert_eq!(refused(&Call { bits: 9, ..P6 }), 0x6_0000);
+    assert_eq!(refused(&Call { bits: 13, ..P6 }), 0x6_0000);
     assert_eq!(refused(&Call { limit: 256, ..P6 }), 0x6_0000);
     assert_eq!(refused(&Call { kind: 2, ..P6 }), 0x6_0000);
     // 2^20 is 49800000, 2^−20 is 35800000.
@@ -151,9 +156,10 @@ fn refusals_of_the_block() {
 
     let samples = &P6_SAMPLES[..24];
     assert_eq!(refused(&Call { samples, ..P6 }), 0x7_0000);
-    assert_eq!(refused_into::<0, 7, 8>(&P6), 0x7_0000);
-    assert_eq!(refused_into::<1, 6, 8>(&P6), 0x7_0000);
-    assert_eq!(refused_into::<1, 7, 7>(&P6), 0x7_0000);
+    assert_eq!(refused_into::<0, 14, 8>(&P6), 0x7_0000);
+    assert_eq!(refused_into::<1, 13, 8>(&P6), 0x7_0000);
+    assert_eq!(refused_into::<1, 7, 8>(&P6), 0x7_0000);
+    assert_eq!(refused_into::<1, 14, 7>(&P6), 0x7_0000);
 
     // Sample 4, bytes 16 to 19, becomes FF800000, minus infinity.
     let mut samples = P6_SAMPLES;
@@ -190,11 +196,12 @@ fn ends_of_the_steps_range() {
         ..P6
     };
     let report = [0, 0, 3, 0, 0, 0, 0, 0];
-    let levels = [0x03, 0xFD, 0xFD, 0xFD, 0xFD, 0xFD, 0xFD];
+    let three = MINUS[3];
+    let levels = [[0x03, 0x00], three, three, three, three, three, three];
     assert_eq!(decoded(&least), (1, 0x80, levels, report));
     let most = Call {
         step: 0x4980_0000,
         ..least
     };
-    assert_eq!(decoded(&most), (1, 0x80, [0; 7], report));
+    assert_eq!(decoded(&most), (1, 0x80, [MINUS[0]; 7], report));
 }

@@ -187,10 +187,10 @@ fn iterative_asks_the_matrix_then_10_then_6_to_8() {
     };
     let mut samples = [1.0; 9];
     samples[4] = f32::NAN;
-    assert_eq!(refused(&bad, &own[1..], 9, &samples, 1), (1, 0));
-    assert_eq!(refused(&b, &own[1..], 9, &samples, 1), (10, 0));
+    assert_eq!(refused(&bad, &own[1..], 13, &samples, 1), (1, 0));
+    assert_eq!(refused(&b, &own[1..], 13, &samples, 1), (10, 0));
     assert_eq!(refused(&b, &own[1..], 3, &samples, 2), (10, 0));
-    assert_eq!(refused(&b, &own, 9, &samples, 1), (6, 0));
+    assert_eq!(refused(&b, &own, 13, &samples, 1), (6, 0));
     assert_eq!(refused(&b, &own, 3, &samples, 1), (7, 0));
     assert_eq!(refused(&b, &own, 3, &samples[1..], 2), (7, 0));
     assert_eq!(refused(&b, &own, 3, &samples, 2), (8, 4));

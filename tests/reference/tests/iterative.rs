@@ -33,7 +33,7 @@ fn answer(outcome: Outcome, rounds: usize, failing: usize, changed: usize) -> An
 }
 
 /// Iterative voting on code A into buffers longer than needed.
-fn voted(setting: &Setting, samples: &[f32]) -> (Answer, u8, Vec<i8>) {
+fn voted(setting: &Setting, samples: &[f32]) -> (Answer, u8, Vec<i16>) {
     let mut word = [0xA5; 3];
     let mut levels = [99; 9];
     let answer = iterative(&code_a(), setting, samples, &mut word, &mut levels);
@@ -114,7 +114,7 @@ fn refusals_in_their_order() {
         gamma: 4,
         ..code_a()
     };
-    let bad_setting = Setting { bits: 9, ..P6 };
+    let bad_setting = Setting { bits: 13, ..P6 };
     let not_finite = [0.0, 0.0, 0.0, f32::NAN, 0.0, f32::INFINITY, 0.0];
     assert_eq!(refused(&bad_matrix, bad_setting, &not_finite, 0, 0), (1, 0));
     assert_eq!(refused(&a, bad_setting, &not_finite, 0, 0), (6, 0));
@@ -200,9 +200,9 @@ fn the_order_in_which_a_step_asks() {
     let refused_with = |record: Session,
                         h: &Matrix,
                         received: &[u8],
-                        opened: &[i8],
+                        opened: &[i16],
                         word: &[u8],
-                        levels: &[i8]| {
+                        levels: &[i16]| {
         let (mut kept, mut word_kept, mut levels_kept) = (record, word.to_vec(), levels.to_vec());
         let refusal = step(
             &mut kept,
@@ -223,7 +223,7 @@ fn the_order_in_which_a_step_asks() {
         0
     };
     let o = [1, -2, -2, -2, -2, -2, -2];
-    let refused = |record: Session, h: &Matrix, received: &[u8], word: &[u8], levels: &[i8]| {
+    let refused = |record: Session, h: &Matrix, received: &[u8], word: &[u8], levels: &[i16]| {
         refused_with(record, h, received, &o, word, levels)
     };
     let a = code_a();
@@ -235,7 +235,7 @@ fn the_order_in_which_a_step_asks() {
     assert_eq!(refused(working, &a, &z, &z, &r), 0);
     for (bits, limit, k) in [
         (1, 5, 4),
-        (9, 5, 4),
+        (13, 5, 4),
         (3, 256, 4),
         (3, 5, 5),
         (3, 5, 6),
@@ -285,7 +285,7 @@ fn the_order_in_which_a_step_asks() {
         assert_eq!(refused(working, &a, &[0x81]), 7);
         assert_eq!(refused(working, &a, &[]), 7);
     }
-    for numbers in [[0; 7], [-128; 7], [127; 7], [4; 7], [-4; 7]] {
+    for numbers in [[0; 7], [-32_768; 7], [32_767; 7], [4; 7], [-4; 7]] {
         assert_eq!(refused_with(working, &a, &z, &numbers, &z, &r), 0);
         assert_eq!(refused_with(working, &a, &[0x81], &numbers, &z, &r), 9);
         assert_eq!(refused_with(working, &a, &z, &numbers, &[0x81], &r), 23);
@@ -303,7 +303,14 @@ fn the_order_in_which_a_step_asks() {
         refused(working, &a, &z, &z, &[1, -2, -2, -2, -2, -2, 3, 4]),
         0
     );
-    let widest = Session { bits: 8, ..working };
-    assert_eq!(refused(widest, &a, &z, &z, &[-127, 0, 0, 0, 0, 0, 127]), 0);
-    assert_eq!(refused(widest, &a, &z, &z, &[-128, 0, 0, 0, 0, 0, 0]), 23);
+    // L is that of the record's b.
+    for (bits, largest) in [(8, 127), (9, 255), (12, 2047)] {
+        let wide = Session { bits, ..working };
+        let ends = [-largest, 0, 0, 0, 0, 0, largest];
+        assert_eq!(refused(wide, &a, &z, &z, &ends), 0);
+        for level in [largest + 1, -largest - 1, 32_767, -32_768] {
+            let beyond = [level, 0, 0, 0, 0, 0, 0];
+            assert_eq!(refused(wide, &a, &z, &z, &beyond), 23, "{bits} {level}");
+        }
+    }
 }

@@ -120,11 +120,11 @@ fn refused_runs() {
     list[3..6].copy_from_slice(&[1, 3, 4]);
     let weight = head([7, 7, 3, 3], &list, tail, 0.5);
     assert_eq!(lines(&weight), "refused 4 2\n");
-    let overlap = head([2, 2, 2, 2], &[0, 1, 0, 1], [9, 5, 7], -1.0);
+    let overlap = head([2, 2, 2, 2], &[0, 1, 0, 1], [13, 5, 7], -1.0);
     assert_eq!(lines(&overlap), "refused 5 0\n");
     for (setting, step) in [
         ([1, 5, 0], 0.5),
-        ([9, 5, 0], 0.5),
+        ([13, 5, 0], 0.5),
         ([3, 5, 2], 0.5),
         ([3, 5, 255], 0.5),
         ([3, 5, 1], 0.0),

@@ -44,9 +44,9 @@ fn the_examples_of_the_document() {
 
 #[test]
 fn the_largest_level_of_each_width() {
-    let largest: Vec<i32> = (2..=8).map(largest_level).collect();
-    assert_eq!(largest, [1, 3, 7, 15, 31, 63, 127]);
-    for bits in 2..=8 {
+    let largest: Vec<i32> = (2..=12).map(largest_level).collect();
+    assert_eq!(largest, [1, 3, 7, 15, 31, 63, 127, 255, 511, 1023, 2047]);
+    for bits in 2..=12 {
         let setting = level_step(bits, 1.0);
         assert_eq!(level(&setting, f32::MAX), largest_level(bits));
         assert_eq!(level(&setting, f32::MIN), -largest_level(bits));
@@ -59,9 +59,11 @@ fn the_largest_level_of_each_width() {
 #[test]
 fn the_ends_of_the_setting() {
     let refused = |setting: Setting| check_setting(&setting) == Err(Refusal::plain(6));
-    // "b = 8 passes, 9 is refusal 6."
-    assert!(!refused(level_step(8, 0.5)));
-    assert!(refused(level_step(9, 0.5)));
+    // "b = 8 passes, 9 is refusal 6." Card 7: "the case b = 9 is accepted", "out of range from 13".
+    for bits in 8..=12 {
+        assert!(!refused(level_step(bits, 0.5)));
+    }
+    assert!(refused(level_step(13, 0.5)));
     assert!(!refused(level_step(2, 0.5)));
     assert!(refused(level_step(1, 0.5)));
     let with_limit = |limit| Setting {
@@ -105,7 +107,7 @@ fn the_ends_of_the_setting() {
 /// a whole number or is one exactly.
 #[test]
 fn the_formula_as_printed() {
-    for bits in 2..=8 {
+    for bits in 2..=12 {
         let largest = f64::from(largest_level(bits));
         for step in [0.5_f32, 0.1, 0.75, 3.0, 1.0e-5, 7.7e5] {
             for at in 0..2_000 {
@@ -128,11 +130,11 @@ fn the_formula_as_printed() {
     }
 }
 
-/// (2k − 1)D and 2L|Y| have at most 8 + 24 significant bits, so a 64-bit float holds them exactly
+/// (2k − 1)D and 2L|Y| have at most 12 + 24 significant bits, so a 64-bit float holds them exactly
 /// and the comparison of whole numbers can be done there too.
 #[test]
 fn half_ways_go_away_from_zero() {
-    for bits in 2..=8 {
+    for bits in 2..=12 {
         let largest = largest_level(bits);
         for step in [0.5_f32, 0.1, 1.0 / 3.0, 5.0e-6, 1_048_575.94] {
             for (setting, gain) in [
@@ -179,7 +181,7 @@ fn refusals_6_to_8() {
         answer.map_or_else(|refusal| (refusal.number, refusal.place), |()| (0, 0))
     };
     let good = level_step(3, 0.5);
-    let bad = level_step(9, 0.5);
+    let bad = level_step(13, 0.5);
     assert_eq!(refused(good, &[], 0, 0), (0, 0));
     assert_eq!(refused(bad, &[], 0, 0), (6, 0));
     assert_eq!(refused(good, &[1.0; 1023], 1023, 128), (0, 0));

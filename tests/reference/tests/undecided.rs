@@ -43,7 +43,7 @@ fn answer(outcome: Outcome, rounds: usize, failing: usize, changed: usize) -> An
 }
 
 /// A whole call: its answer, word and levels.
-fn voted(samples: [f32; 7]) -> (Answer, u8, [i8; 7]) {
+fn voted(samples: [f32; 7]) -> (Answer, u8, [i16; 7]) {
     let (mut word, mut levels) = ([0xA5], [99; 7]);
     let answer = iterative(&code_a(), &P6, &samples, &mut word, &mut levels);
     (answer.expect("no refusal applies"), word[0], levels)
@@ -55,7 +55,7 @@ struct Opened {
     record: Session,
     answer: Answer,
     word: [u8; 1],
-    levels: [i8; 7],
+    levels: [i16; 7],
 }
 
 impl Opened {
@@ -78,7 +78,7 @@ impl Opened {
     }
 
     /// One step, lent these levels as the opening's.
-    fn step(&mut self, received: u8, opened: &[i8]) -> Result<Answer, Refusal> {
+    fn step(&mut self, received: u8, opened: &[i16]) -> Result<Answer, Refusal> {
         step(
             &mut self.record,
             &code_a(),
@@ -90,7 +90,7 @@ impl Opened {
     }
 
     /// What a step of a copy counts as changed.
-    fn changed(&self, received: u8, opened: [i8; 7]) -> usize {
+    fn changed(&self, received: u8, opened: [i16; 7]) -> usize {
         let stepped = self.clone().step(received, &opened);
         stepped.expect("no refusal applies").changed
     }
@@ -219,7 +219,7 @@ fn other_levels_than_the_openings() {
     let p6 = Opened::new(P6_SAMPLES);
     assert_eq!(p6.changed(0x80, p6.levels), 1);
     assert_eq!(p6.changed(0x80, [0; 7]), 0);
-    for other in [1, -1, 3, -3, 4, -4, 127, -127, -128] {
+    for other in [1, -1, 3, -3, 4, -4, 127, -127, -128, -32_768] {
         assert_eq!(p6.changed(0x80, [other; 7]), 1, "{other}");
         assert_eq!(p6.changed(0x80, [other, 0, 0, 0, 0, 0, 0]), 1, "{other}");
         let rest = [0, other, other, other, other, other, other];

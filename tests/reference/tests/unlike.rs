@@ -50,7 +50,7 @@ const SAMPLES: [f32; 9] = [0.5, -1.0, -1.0, -1.0, -1.0, -1.0, -1.0, -1.0, -1.0];
 
 /// E of bit 0 is −4. Bit 1 has the odd row 0 1 2 and two even ones: −1. The others have an odd row
 /// with bit 0 and an even one: 0.
-const LEVELS: [i8; 9] = [-3, -3, -2, -2, -2, -2, -2, -2, -2];
+const LEVELS: [i16; 9] = [-3, -3, -2, -2, -2, -2, -2, -2, -2];
 
 fn answer(outcome: Outcome, rounds: usize, failing: usize, changed: usize) -> Answer {
     Answer {

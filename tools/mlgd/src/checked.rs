@@ -248,9 +248,9 @@ fn accepted(setting: &Setting, name: &str) -> Result<(), Fault> {
     }
     let (what, remedy) = match setting {
         Setting {
-            bits: ..=1 | 9.., ..
+            bits: ..=1 | 13.., ..
         } => (
-            format!("bits is 2 to 8, and not {}", setting.bits),
+            format!("bits is 2 to 12, and not {}", setting.bits),
             "correct it",
         ),
         Setting { kind: 2.., .. } => (

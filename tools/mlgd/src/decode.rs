@@ -26,7 +26,7 @@ line, block, outcome, rounds, failing, changed, wrong_bits, within_half, reason,
 --matrix M        alist, a list with sizes, bare rows, zeros and ones, or a sheet (see mlgd matrix
                   --help)
 --setting S       words such as \"bits 8 limit 64 level-step 0.1\" (or full-scale 4), or a file
-                  with them
+                  with them; bits is 2 to 12, limit 0 to 255
 --samples X       numbers, n to a block: CSV with , or ; or tabs, or blanks; - is standard input.
                   nan and inf are read and the block is refused; # begins a comment
 --out R           the table, which gets its name when it is whole; standard output without it.

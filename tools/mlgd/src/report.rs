@@ -5,23 +5,24 @@ use crate::checked::Answer;
 use crate::fields::column_letters;
 use crate::matrix_file::Matrix;
 use crate::results::{Counts, Outcome, Row};
-use crate::setting::Setting;
+use crate::setting::{Setting, MOST_BITS};
 use crate::status::Status;
 
-/// The promise that a code and a setting carry: at most t wrong bits are undone.
+/// The promise that a code and a setting carry: at most t wrong bits are undone, or at most as many
+/// as the limit leaves the rounds for.
 #[derive(Clone, Copy, Debug)]
 pub struct Promise {
     t: usize,
-    even: bool,
-    /// The limit, and the least one that carries the promise; none for one-step voting.
-    limits: Option<(u32, u32)>,
+    gamma: usize,
+    /// None for one-step voting.
+    setting: Option<Setting>,
 }
 
 impl Promise {
     /// Of iterative voting.
     pub fn iterative(matrix: &Matrix, setting: &Setting) -> Promise {
         Promise {
-            limits: Some((setting.limit.into(), setting.ample_limit())),
+            setting: Some(*setting),
             ..Promise::one_step(matrix)
         }
     }
@@ -30,28 +31,43 @@ impl Promise {
     pub fn one_step(matrix: &Matrix) -> Promise {
         Promise {
             t: matrix.guaranteed(),
-            even: matrix.gamma.is_multiple_of(2),
-            limits: None,
+            gamma: matrix.gamma.into(),
+            setting: None,
         }
     }
 
-    /// Whether samples of level 0 matter: an even gamma, and voting from samples.
+    /// How many wrong bits the limit leaves the rounds for.
+    fn undone(&self) -> usize {
+        let enough = |wrong: &usize| {
+            self.setting
+                .is_none_or(|by| by.rounds_for(self.gamma, *wrong) <= by.limit.into())
+        };
+        (0..=self.t).rev().find(enough).unwrap_or(0)
+    }
+
+    /// Whether samples of level 0 matter: half of an even gamma wrong, and voting from samples.
     fn needs_levels(&self) -> bool {
-        self.even && self.limits.is_some()
+        self.setting.is_some() && 2 * self.undone() == self.gamma
     }
 
-    /// The limit that would carry the promise, where the given one does not.
-    fn missing_limit(&self) -> Option<u32> {
-        self.limits
-            .filter(|(limit, ample)| limit < ample)
-            .map(|(_, ample)| ample)
+    /// What in the setting would carry the whole promise, where the limit does not: a larger limit
+    /// or, where none is large enough, fewer bits.
+    fn missing(&self) -> Option<String> {
+        let given = self.setting.filter(|_| self.undone() < self.t)?;
+        let needed = |bits: u8| Setting { bits, ..given }.rounds_for(self.gamma, self.t);
+        let mut fewer = (2..=given.bits.min(MOST_BITS)).rev();
+        let bits = fewer.find(|&bits| needed(bits) <= 255)?;
+        Some(match bits == given.bits {
+            true => format!("limit {}", needed(bits)),
+            false => format!("bits {bits} limit {}", needed(bits)),
+        })
     }
 
-    /// How many bits were wrong in a block that failed with an ample limit: with fewer it would
-    /// have been decoded. `weak` says that a bit 1 has level 0.
+    /// How many bits were wrong in a block that failed: with fewer it would have been decoded.
+    /// `weak` says that a bit 1 has level 0.
     fn more_than(&self, weak: bool) -> String {
         let lost = usize::from(weak && self.needs_levels());
-        match self.t.saturating_sub(lost) {
+        match self.undone().saturating_sub(lost) {
             0 => "a bit was wrong".into(),
             1 => "more than 1 bit was wrong".into(),
             t => format!("more than {} were wrong", counted(t, "bit")),
@@ -60,9 +76,8 @@ impl Promise {
 
     /// What is to be said of a codeword that lies beyond the half, whatever the limit.
     fn beyond(&self, wrong_bits: usize) -> String {
-        let are = if self.t == 1 { "is" } else { "are" };
         format!(
-            "wrong_bits is {wrong_bits}, more than the {} that {are} proved to be undone: \
+            "wrong_bits is {wrong_bits}, more than t = {} (half of gamma): \
              nothing proves this codeword to be the one sent, compare it with another reception \
              or send the block again",
             self.t
@@ -72,19 +87,21 @@ impl Promise {
     /// Why a block is open or to be looked at, in words; nothing where it is decoded within the
     /// half.
     fn reason(&self, answer: &Answer, ended: &Ended) -> String {
+        if answer.decoded && ended.wrong_bits <= self.t {
+            return String::new();
+        }
+        if answer.decoded {
+            return self.beyond(ended.wrong_bits);
+        }
         let still = match answer.failing {
             1 => "1 check still fails".into(),
             failing => format!("{} still fail", counted(failing, "check")),
         };
-        match (answer.decoded, self.missing_limit()) {
-            (true, _) if ended.wrong_bits <= self.t => String::new(),
-            (true, _) => self.beyond(ended.wrong_bits),
-            (false, None) => {
-                let wrong = self.more_than(ended.weak);
-                format!("{wrong}: {still}: send the block again")
-            }
-            (false, Some(ample)) => format!(
-                "{still} after {}: try a limit of {ample} before you send it again",
+        let wrong = self.more_than(ended.weak);
+        match self.missing() {
+            None => format!("{wrong}: {still}: send the block again"),
+            Some(other) => format!(
+                "{wrong}: {still} after {}: try {other} before you send it again",
                 counted(answer.rounds, "round")
             ),
         }
@@ -223,16 +240,20 @@ impl Totals {
     /// The sizes and what they promise, in one line; `sizes` comes from the matrix.
     pub fn summary(&self, sizes: &str, promise: &Promise) -> String {
         let mut line = format!("{sizes}, blocks {}", self.blocks);
-        let Some((limit, ample)) = promise.limits else {
+        let Some(setting) = promise.setting else {
             return line + "; one-step voting carries the promise";
         };
         line += &format!(", samples at level 0: {}", self.level_0);
-        line += &match limit < ample {
-            true => format!(
-                "; limit {limit} does not carry the promise: limit {ample} (L / 2 + 1) does"
-            ),
-            false => {
-                format!("; limit {limit} carries the promise (it is at least L / 2 + 1 = {ample})")
+        line += &format!("; limit {} ", setting.limit);
+        line += &match (promise.missing(), promise.undone()) {
+            (None, t) => {
+                let rounds = setting.rounds_for(promise.gamma, t);
+                format!("carries the promise (it is at least {rounds})")
+            }
+            (Some(other), 0) => format!("does not carry the promise: {other} does"),
+            (Some(other), undone) => {
+                let bits = counted(undone, "wrong bit");
+                format!("carries the promise for {bits} and no more: {other} carries it for t")
             }
         };
         if promise.needs_levels() {
@@ -252,6 +273,10 @@ mod tests {
 
     /// Of a code with this gamma, at 8 bits and this limit.
     fn promise(gamma: u16, limit: u8) -> Promise {
+        promise_by(8, gamma, limit)
+    }
+
+    fn promise_by(bits: u8, gamma: u16, limit: u8) -> Promise {
         let matrix = Matrix {
             n: 155,
             m: 93,
@@ -260,7 +285,7 @@ mod tests {
             list: Vec::new(),
         };
         let setting = Setting {
-            bits: 8,
+            bits,
             limit,
             kind: 0,
             step: 0.1,
@@ -291,19 +316,16 @@ mod tests {
                       compare it with another reception or send the block again";
         for limit in [0, 30, 63, 64, 255] {
             for weak in [false, true] {
-                let expected = format!(
-                    "wrong_bits is 6, more than the 2 that are proved to be undone: {ending}"
-                );
+                let expected =
+                    format!("wrong_bits is 6, more than t = 2 (half of gamma): {ending}");
                 assert_eq!(reason(promise(5, limit), true, 6, weak), expected);
                 assert_eq!(reason(promise(4, limit), true, 6, weak), expected);
                 assert_eq!(reason(promise(4, limit), true, 2, weak), "");
             }
         }
-        let expected =
-            format!("wrong_bits is 2, more than the 1 that is proved to be undone: {ending}");
+        let expected = format!("wrong_bits is 2, more than t = 1 (half of gamma): {ending}");
         assert_eq!(reason(promise(3, 64), true, 2, false), expected);
-        let expected =
-            format!("wrong_bits is 1, more than the 0 that are proved to be undone: {ending}");
+        let expected = format!("wrong_bits is 1, more than t = 0 (half of gamma): {ending}");
         assert_eq!(reason(promise(1, 64), true, 1, false), expected);
     }
 
@@ -339,8 +361,8 @@ mod tests {
         );
     }
 
-    /// How many bits were wrong is said where it follows: with an ample limit, and for one bit
-    /// fewer where gamma is even and a bit 1 has level 0.
+    /// How many bits were wrong is said as it follows: with a limit that carries the promise, and for
+    /// one bit fewer where gamma is even and a bit 1 has level 0.
     #[test]
     fn failed() {
         let ending = "4 checks still fail: send the block again";
@@ -351,12 +373,109 @@ mod tests {
             (4, true, "more than 1 bit was wrong"),
             (2, true, "a bit was wrong"),
         ] {
-            let found = reason(promise(gamma, 64), false, 9, weak);
+            let needed = if gamma == 5 { 43 } else { 64 };
+            let found = reason(promise(gamma, needed), false, 9, weak);
             assert_eq!(found, format!("{wrong}: {ending}"));
-            let found = reason(promise(gamma, 63), false, 9, weak);
-            let expected = "4 checks still fail after 30 rounds: \
-                            try a limit of 64 before you send it again";
-            assert_eq!(found, expected);
         }
+    }
+
+    /// With a smaller limit fewer wrong bits are proved to be undone, and levels of 0 lose none.
+    #[test]
+    fn failed_with_a_small_limit() {
+        for (bits, gamma, limit, wrong, other) in [
+            (8, 5, 42, "more than 1 bit was wrong", "limit 43"),
+            (8, 5, 25, "a bit was wrong", "limit 43"),
+            (8, 4, 63, "more than 1 bit was wrong", "limit 64"),
+            (8, 2, 63, "a bit was wrong", "limit 64"),
+            (9, 2, 127, "a bit was wrong", "limit 128"),
+            (10, 3, 170, "a bit was wrong", "limit 171"),
+            (10, 4, 255, "more than 1 bit was wrong", "bits 9 limit 128"),
+            (11, 3, 255, "a bit was wrong", "bits 10 limit 171"),
+            (11, 5, 255, "more than 1 bit was wrong", "bits 10 limit 171"),
+            (12, 8, 255, "a bit was wrong", "bits 9 limit 128"),
+            (
+                12,
+                30,
+                255,
+                "more than 11 bits were wrong",
+                "bits 9 limit 128",
+            ),
+            (
+                12,
+                32,
+                255,
+                "more than 12 bits were wrong",
+                "bits 9 limit 128",
+            ),
+            (12, 32, 63, "a bit was wrong", "bits 9 limit 128"),
+            (12, 32, 64, "more than 1 bit was wrong", "bits 9 limit 128"),
+        ] {
+            for weak in [false, true] {
+                let found = reason(promise_by(bits, gamma, limit), false, 9, weak);
+                let expected = format!(
+                    "{wrong}: 4 checks still fail after 30 rounds: \
+                     try {other} before you send it again"
+                );
+                assert_eq!(found, expected, "bits {bits}, gamma {gamma}");
+            }
+        }
+    }
+
+    /// As many wrong bits as 255 rounds are enough for: README.md has this table.
+    #[test]
+    fn most_that_can_be_promised() {
+        for gamma in 1..=32 {
+            let t = usize::from(gamma) / 2;
+            let promised = |bits| promise_by(bits, gamma, 255).undone();
+            assert_eq!([2, 8, 9].map(promised), [t; 3]);
+            let lost = match gamma % 2 {
+                0 => [1, 2, 4],
+                _ => [0, 1, 3],
+            };
+            let expected = lost.map(|lost| t.saturating_sub(lost));
+            assert_eq!([10, 11, 12].map(promised), expected, "gamma {gamma}");
+        }
+    }
+
+    /// What the summary says of the limit.
+    #[test]
+    fn summaries() {
+        let said = |promise: Promise| {
+            let line = Totals::default().summary("sizes", &promise);
+            let (_, limit) = line.split_once("level 0: 0; ").expect("the limit");
+            limit.to_string()
+        };
+        let even = "; gamma is even: it holds for t - 1 in the blocks with a sample above 0 at \
+                    level 0, which are 0";
+        for (bits, gamma, limit, expected) in [
+            (8, 1, 0, "limit 0 carries the promise (it is at least 0)"),
+            (8, 3, 64, "limit 64 carries the promise (it is at least 43)"),
+            (8, 3, 42, "limit 42 does not carry the promise: limit 43 does"),
+            (
+                8,
+                5,
+                42,
+                "limit 42 carries the promise for 1 wrong bit and no more: limit 43 carries it for t",
+            ),
+            (
+                12,
+                3,
+                255,
+                "limit 255 does not carry the promise: bits 10 limit 171 does",
+            ),
+            (
+                12,
+                32,
+                255,
+                "limit 255 carries the promise for 12 wrong bits and no more: \
+                 bits 9 limit 128 carries it for t",
+            ),
+        ] {
+            assert_eq!(said(promise_by(bits, gamma, limit)), expected);
+        }
+        assert_eq!(
+            said(promise(4, 64)),
+            format!("limit 64 carries the promise (it is at least 64){even}")
+        );
     }
 }

@@ -18,6 +18,9 @@ pub struct Setting {
 
 const EXAMPLE: &str = "bits 8 limit 64 level-step 0.1";
 
+/// The largest width that the proved code accepts.
+pub const MOST_BITS: u8 = 12;
+
 /// The words that have a number after them.
 const WORDS: [&str; 4] = ["bits", "limit", "level-step", "full-scale"];
 
@@ -79,12 +82,17 @@ impl Setting {
 
     /// The largest level: L = 2^(b − 1) − 1, where b is accepted.
     pub fn largest_level(&self) -> u32 {
-        (1 << (u32::from(self.bits.clamp(1, 8)) - 1)) - 1
+        (1 << (u32::from(self.bits.clamp(1, MOST_BITS)) - 1)) - 1
     }
 
-    /// The least limit with which the flipping rule holds for iterative voting: L / 2 + 1.
-    pub fn ample_limit(&self) -> u32 {
-        self.largest_level() / 2 + 1
+    /// The rounds after which so many wrong bits, at most half of gamma, are right at the latest:
+    /// with this limit or more the flipping rule for iterative voting holds for them.
+    pub fn rounds_for(&self, gamma: usize, wrong: usize) -> u32 {
+        let stride = gamma + 2 - 2 * wrong;
+        match wrong {
+            0 => 0,
+            _ => self.largest_level() / stride as u32 + 1,
+        }
     }
 
     /// Whether a finite sample gets level 0. Both sides are exact in the double format.
@@ -125,7 +133,7 @@ impl Found {
         let (value_line, value_at) = values[0];
         let twice = match word {
             "bits" => {
-                let bits = text.whole(value_line, value_at, "bits is 2 to 8", 255)?;
+                let bits = text.whole(value_line, value_at, "bits is 2 to 12", 255)?;
                 self.bits.replace(bits).is_some()
             }
             "limit" => {
@@ -202,6 +210,7 @@ mod tests {
         for line in [
             "bits 3 limit 5 level-step 0.5",
             "bits 8 limit 255 full-scale 4",
+            "bits 12 limit 255 level-step 0.005",
             "bits 0 limit 0 kind 7 -0",
             "bits 255 limit 1 level-step 0x7fc00001",
         ] {
@@ -212,11 +221,24 @@ mod tests {
         assert_eq!(read(other_order).unwrap().to_string(), expected);
     }
 
+    /// With half of an even gamma wrong it is L / 2 + 1, with half of an odd one L / 3 + 1.
     #[test]
     fn the_limit_that_carries_the_promise() {
-        for (bits, limit) in [(8, 64), (3, 2), (2, 1)] {
+        for (bits, even, odd) in [
+            (2, 1, 1),
+            (3, 2, 2),
+            (8, 64, 43),
+            (9, 128, 86),
+            (10, 256, 171),
+            (11, 512, 342),
+            (12, 1024, 683),
+        ] {
             let setting = read(&format!("bits {bits} limit 5 level-step 0.5")).unwrap();
-            assert_eq!(setting.ample_limit(), limit);
+            for half in 1..=16 {
+                assert_eq!(setting.rounds_for(2 * half, half), even);
+                assert_eq!(setting.rounds_for(2 * half + 1, half), odd);
+                assert_eq!(setting.rounds_for(2 * half, 0), 0);
+            }
         }
     }
 
@@ -225,6 +247,8 @@ mod tests {
         for line in [
             "bits 3 limit 5 level-step 0.5",
             "bits 8 limit 5 full-scale 4.7",
+            "bits 12 limit 5 level-step 0.003",
+            "bits 12 limit 5 full-scale 4.7",
         ] {
             let setting = read(line).unwrap();
             let same = reference::Setting {
@@ -271,11 +295,11 @@ mod tests {
             ),
             (
                 "bits 256",
-                "--setting:1:2: bits is 2 to 8: 256 is above 255",
+                "--setting:1:2: bits is 2 to 12: 256 is above 255",
             ),
             (
                 "bits -3",
-                "--setting:1:2: bits is 2 to 8: `-3` is not a whole number",
+                "--setting:1:2: bits is 2 to 12: `-3` is not a whole number",
             ),
             ("bits", "--setting:1:1: the number after `bits` is missing"),
             (

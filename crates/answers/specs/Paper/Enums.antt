@@ -9,8 +9,8 @@ use Rattle.answers.specs.declared.Outcome.{Outcome}
 use Rattle.answers.specs.declared.Outcome.the-variants.{Decoded, Failed, Working}
 use Rattle.answers.specs.declared.Report.{Report}
 use Rattle.answers.specs.declared.Refusal.{Refusal}
-use Rattle.answers.specs.declared.Refusal.the-variants.{Sizes, Length, Entry, Weight, Overlap, Setting, Buffer, Sample, Spare, Index, Sheet, NoSheet, Record}
-use Rattle.answers.specs.declared.Refusal.the-variants.{Ended, OtherSizes, Beyond}
+use Rattle.answers.specs.declared.Refusal.the-variants.{Sizes, Length, Entry, Weight, Overlap, Setting, Buffer, Sample, Spare, Index, Sheet, NoSheet, Level}
+use Rattle.answers.specs.declared.Refusal.the-variants.{Record, Ended, OtherSizes, Beyond}
 use Rattle.answers.specs.declared.Answer.{Answer}
 use Rattle.answers.specs.declared.Answer.the-variants as answer
 use Rattle.answers.specs.declared.Checked.{Checked}
@@ -33,6 +33,7 @@ numberOf Spare = 9
 numberOf Index = 10
 numberOf Sheet = 11
 numberOf NoSheet = 12
+numberOf (Level j) = 13
 numberOf Record = 20
 numberOf Ended = 21
 numberOf OtherSizes = 22
@@ -51,6 +52,7 @@ placeOf Spare = 0
 placeOf Index = 0
 placeOf Sheet = 0
 placeOf NoSheet = 0
+placeOf (Level j) = j
 placeOf Record = 0
 placeOf Ended = 0
 placeOf OtherSizes = 0

@@ -1,4 +1,4 @@
--- What is promised of the firmware's face. (Document 02, card 3.)
+-- What is promised of the firmware's face. (Document 02, cards 3 and 7.)
 --   WholeBytes bs xs p      == the bytes are whole numbers, and the report has room
 --   IterativeOnBytes ..     == what iterative voting on the floats fs says and writes, as a returned number and as bytes
 --   FaceIterative           == the face is iterative voting on the bytes read as numbers
@@ -15,7 +15,7 @@ use mathlib.Core.Path.{_≡_}
 use mathlib.Core.List.{List}
 use Prim.Native.Nat.{ℕ, _+_, _*_, _/_, _≤_, _<_}
 use lib.Ieee.{Float}
-use lib.ListN.{length, getD}
+use lib.ListN.{length}
 use Rattle.counting.specs.Paper.Lists.{over}
 use Rattle.answers.specs.Paper.Answers.{accepted, Said, report, written}
 use Rattle.byte_numbers.specs.Paper.Numbers.{number16, entriesIn, samplesIn}
@@ -35,12 +35,12 @@ pub record WholeBytes (bs xs : List ℕ) (p : ℕ) : Type 0 where
   pub samples : length xs ≡ 4 * length (samplesIn xs)
   pub room : 8 ≤ p
 
--- the word w becomes w′, the levels ls become ls′, the report p becomes p′
+-- the word w becomes w′, the levels ls become ls′, the report p becomes p′; two bytes of ls are room for one level
 pub record IterativeOnBytes (H : Matrix) (S : Setting) (fs : List Float) (r : ℕ) (w w′ ls ls′ p p′ : List ℕ) : Type 0 where
-  pub result : r ≡ resultOf (iterativeOf H S fs (length w) (length ls))
-  pub word : w′ ≡ written (iterativeVerdict H S fs (length w) (length ls)) (iterativeWord H S fs) w
-  pub levels : ls′ ≡ written (iterativeVerdict H S fs (length w) (length ls)) (levelBytes (iterativeLevels H S fs)) ls
-  pub report : p′ ≡ written (iterativeVerdict H S fs (length w) (length ls)) (reportBytes (iterativeOf H S fs (length w) (length ls))) p
+  pub result : r ≡ resultOf (iterativeOf H S fs (length w) (length ls / 2))
+  pub word : w′ ≡ written (iterativeVerdict H S fs (length w) (length ls / 2)) (iterativeWord H S fs) w
+  pub levels : ls′ ≡ written (iterativeVerdict H S fs (length w) (length ls / 2)) (levelBytes (iterativeLevels H S fs)) ls
+  pub report : p′ ≡ written (iterativeVerdict H S fs (length w) (length ls / 2)) (reportBytes (iterativeOf H S fs (length w) (length ls / 2))) p
 
 -- "must call the iterative decoder": of whole numbers it asks, says and writes what iterative voting does, refused calls too
 abbrev pub FaceIterative : Matrix → List ℕ → Setting → List ℕ → ℕ → List ℕ → List ℕ → List ℕ → List ℕ → List ℕ → List ℕ → Type 0
@@ -85,7 +85,7 @@ FaceAnswerTells =
 
 -- from the buffers ls′ and p′ that a call leaves which is not refused: R, and "rounds, failing, changed and a zero, 16 bits each, low byte first"
 pub record ReadBack (H : Matrix) (S : Setting) (fs : List Float) (ls′ p′ : List ℕ) : Type 0 where
-  pub levels : (j : ℕ) → j < H .n → levelIn (getD ls′ j 0) ≡ endFrom H S fs .last .R j
+  pub levels : (j : ℕ) → j < H .n → levelIn (number16 ls′ (2 * j)) ≡ endFrom H S fs .last .R j
   pub rounds : number16 p′ 0 ≡ endFrom H S fs .k
   pub failing : number16 p′ 2 ≡ failing H (endFrom H S fs .last .z)
   pub changed : number16 p′ 4 ≡ changed (H .n) (decidedIn (startOf S fs .R)) (endFrom H S fs .last .z) (hardBit fs)

@@ -1,4 +1,4 @@
--- The firmware's face as a call: what it returns and leaves. (Document 02, card 3.)
+-- The firmware's face as a call: what it returns and leaves. (Document 02, cards 3 and 7.)
 --   FacedAs H bs S xs ..            == the returned number, the word, the levels and the report, refused calls too
 -- Assumes nothing.
 use Prim.Native.Nat.{ℕ}

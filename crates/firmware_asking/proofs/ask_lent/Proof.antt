@@ -25,7 +25,7 @@ abbrev asked-lengths : tie.Else2 → tie.Start
 asked-lengths c = asked-setting (c .before .before)
 
 lengths : (c : tie.Else2)
-    → let a = asked-lengths c .args in wrongLengths (a .bytes) (4 * a .n) (a .word) (bytesFor (a .n)) (a .levels) (a .n) ≡ false
+    → let a = asked-lengths c .args in wrongLengths (a .bytes) (4 * a .n) (a .word) (bytesFor (a .n)) (a .levels) (2 * a .n) ≡ false
 lengths c = sym (c .before .wrong-lengths .ensures) ∙ c .if2 .left
 
 setting-fits-requires : tie.Need-setting-fits-requires
@@ -42,6 +42,9 @@ add-need c = search needs
 
 mul-wrong-lengths : tie.Need-mul-wrong-lengths
 mul-wrong-lengths c = search needs
+
+mul-wrong-lengths-2 : tie.Need-mul-wrong-lengths-2
+mul-wrong-lengths-2 c = search needs
 
 wrong-lengths-requires : tie.Need-wrong-lengths-requires
 wrong-lengths-requires c κs = search needs
@@ -74,6 +77,7 @@ ask-lent-spec =
     returns
     add-need
     mul-wrong-lengths
+    mul-wrong-lengths-2
     wrong-lengths-requires
     returns-2
     returns-3

@@ -1,4 +1,4 @@
--- What the firmware's face asks of the numbers and bytes that it is lent. (Document 02, card 3.)
+-- What the firmware's face asks of the numbers and bytes that it is lent. (Document 02, cards 3 and 7.)
 --   faceMatrix n m rho gamma bs     == the matrix of these sizes whose list the bytes bs are
 --   faceSetting bits limit kind step == the setting whose step has these 32 bits
 --   faceCheck H bs                  == what is asked of the matrix: 1 to 5, 2 by the bytes of its list
@@ -31,9 +31,9 @@ faceSetting bits limit kind step = record { bits = bits; limit = limit; kind = k
 unfoldable pub faceCheck : Matrix → List ℕ → Verdict
 faceCheck H bs = refuseWhen 1 (not (sizesFit H)) (refuseWhen 2 (not (eqb (length bs) (2 * (H .m * H .rho)))) (listOf H))
 
--- "else 7; written buffers may be longer": four bytes a sample, one a level, eight of a report
+-- "else 7; written buffers may be longer": four bytes a sample, two a level (card 7), eight of a report
 abbrev pub wrongBytes : ℕ → ℕ → ℕ → ℕ → ℕ → Bool
-wrongBytes n bytes word levels report = wrongLengths bytes (4 * n) word (bytesFor n) levels n || ltb report 8
+wrongBytes n bytes word levels report = wrongLengths bytes (4 * n) word (bytesFor n) levels (2 * n) || ltb report 8
 
 -- refusals 6, 7 and 8; the place of 8 counts samples
 unfoldable pub bytesVerdict : ℕ → Setting → List ℕ → ℕ → ℕ → ℕ → Verdict

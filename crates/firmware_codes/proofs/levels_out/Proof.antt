@@ -1,47 +1,52 @@
--- `firmware_codes::levels_out` meets its contract. The invariant: the bytes are as they were, but for the first j, which are the levels'. Assumes nothing.
-use mathlib.Core.Path.{_≡_, sym, ap, _∙_}
-use mathlib.Core.List.{List}
-use Prim.Native.Nat.{ℕ, _-_, _≤_}
+-- `firmware_codes::levels_out` meets its contract. The invariant: the bytes are as they were, but for those of the first j levels. Assumes nothing.
+use mathlib.Core.Path.{_≡_, ap, _∙_}
+use Prim.Native.Nat.{_-_, _≤_}
 use native.Mathlib.Nat.{le-antisymm}
 use native.Mathlib.Omega.{arith}
 use borrow.Author.Needs.{needs}
 use lib.IntN.{ℤ, pos}
 use lib.ListN.{length, getD}
-use mir.Syntax.{w8}
+use lib.Seq.{sets, length-sets}
 use mir.ValLaws.{toZ-ofZ}
-use Rattle.counting.specs.Paper.Lists.{listed, over}
-use Rattle.counting.proofs.Writes.{over-none, over-long, over-step}
-use Rattle.firmware_codes.specs.Paper.Codes.{levelByte, levelBytes}
+use Rattle.counting.specs.Paper.Joined.{joined}
+use Rattle.quantiser_levels.proofs.Signs.{cell}
+use Rattle.firmware_codes.specs.Paper.Codes.{levelNumber}
+use Rattle.firmware_codes.proofs.Levels.{bytesAt, levels-none, levels-next, levels-all}
 use Rattle.firmware_codes.proofs.levels_out.Statement.{statement}
 use Rattle.firmware_codes.proofs.levels_out.Tie as tie
 
--- the byte of the level at place j
-abbrev byteAt : List ℤ → ℕ → ℕ
-byteAt ls j = levelByte (getD ls j (pos 0))
-
 abbrev Inv-loop : tie.InvT-loop
-Inv-loop levels bytes₀ j₀ bytes j = (j ≤ length levels) × (bytes ≡ over (listed j (byteAt levels)) bytes₀)
+Inv-loop levels bytes₀ j₀ bytes j = (j ≤ length levels) × (bytes ≡ sets bytes₀ 0 (joined j (bytesAt levels)))
 
 abbrev μ-loop : tie.MeasureT-loop
 μ-loop levels bytes₀ j₀ bytes j = length levels - j
 
+-- the buffer is as long as it was
 long : (l : tie.At-loop Inv-loop μ-loop) → length (l .loop .bytes) ≡ length (l .before .before .args .bytes .now)
 long l =
-    over-long (l .loop .j) (byteAt (l .before .before .args .levels .now)) (l .before .before .args .bytes .now) (l .loop .bytes) (l .loop .inv .1)
-    (omega (arith, l .loop .inv .0, l .before .before .pre))
+    let a = l .before .before .args in
+    ap length (l .loop .inv .1) ∙ length-sets (a .bytes .now) 0 (joined (l .loop .j) (bytesAt (a .levels .now)))
 
 loop-holds : tie.Need-loop-holds Inv-loop μ-loop
-loop-holds c = (omega arith, sym (over-none _ _))
+loop-holds c =
+    let a = c .before .args in
+    (omega arith, levels-none (a .levels .now) (a .bytes .now))
 
-shared-slice-copy-out-level-byte : tie.Need-shared-slice-copy-out-level-byte Inv-loop μ-loop
-shared-slice-copy-out-level-byte c = omega arith
+mul-level-number : tie.Need-mul-level-number Inv-loop μ-loop
+mul-level-number c = omega arith
 
-level-byte-requires : tie.Need-level-byte-requires Inv-loop μ-loop
-level-byte-requires c κs = search needs
+shared-slice-copy-out-level-number : tie.Need-shared-slice-copy-out-level-number Inv-loop μ-loop
+shared-slice-copy-out-level-number c = omega arith
 
-slice-write-bytes : tie.Need-slice-write-bytes Inv-loop μ-loop
-slice-write-bytes c =
-    let l = c .before .before .before in
+level-number-requires : tie.Need-level-number-requires Inv-loop μ-loop
+level-number-requires c κs = search needs
+
+mul-put16 : tie.Need-mul-put16 Inv-loop μ-loop
+mul-put16 c = omega arith
+
+put16-requires : tie.Need-put16-requires Inv-loop μ-loop
+put16-requires c κs =
+    let l = c .before .before .before .before in
     omega (arith, long l, l .before .before .pre)
 
 add-j : tie.Need-add-j Inv-loop μ-loop
@@ -52,20 +57,25 @@ loop-less c = omega arith
 
 loop-again : tie.Need-loop-again Inv-loop μ-loop
 loop-again c =
-    let l = c .before .before .before in
+    let n = c .before .before .before .before in
+    let l = n .before .before .before in
     let a = l .before .before .args in
-    let r : ℤ = getD (a .levels .now) (l .loop .j) (pos 0) in (
+    let r : ℤ = getD (a .levels .now) (l .loop .j) (pos 0) in
+    let w = c .before .before .put16 in (
       omega arith,
-      over-step (l .loop .j) (byteAt (a .levels .now)) (a .bytes .now) (l .loop .bytes) (l .loop .inv .1) _ (omega (arith, l .before .before .pre))
-          (c .level-byte .ensures ∙ ap levelByte (toZ-ofZ w8 r (record { sfits = c .before .level-byte-arg .given }))),
+      levels-next (a .levels .now) (a .bytes .now) (l .loop .j) (n .level-number .result) (l .loop .bytes) (w .last .1 .1 .0)
+          (n .level-number .ensures ∙ ap levelNumber (toZ-ofZ cell r (record { sfits = n .before .level-number-arg .given }))) (l .loop .inv .1) (w .ensures),
     )
 
 same-length : tie.Need-same-length Inv-loop μ-loop
 same-length c = long (c .before)
 
 returns : tie.Need-returns Inv-loop μ-loop
-unfolding levelBytes
-returns c = rw (le-antisymm (c .before .loop .inv .0) (omega arith)) at (c .before .loop .inv .1)
+returns c =
+    let a = c .before .before .before .args in
+    let l = c .before .loop in
+    let e : l .j ≡ length (a .levels .now) = le-antisymm (l .inv .0) (omega arith) in
+    levels-all (a .levels .now) (a .bytes .now) (l .bytes) (c .before .before .before .pre) (rw e at (l .inv .1))
 
 pub levels-out-spec : {M : Type 1} → statement M
 levels-out-spec =
@@ -74,9 +84,11 @@ levels-out-spec =
     Inv-loop
     μ-loop
     loop-holds
-    shared-slice-copy-out-level-byte
-    level-byte-requires
-    slice-write-bytes
+    mul-level-number
+    shared-slice-copy-out-level-number
+    level-number-requires
+    mul-put16
+    put16-requires
     add-j
     loop-less
     loop-again

@@ -1,20 +1,21 @@
--- What is promised of the number and the bytes that leave the firmware's face. (Document 02, card 3.)
+-- What is promised of the number and the bytes that leave the firmware's face. (Document 02, cards 3 and 7.)
 --   Told s              == an answer that a decoding call over samples can give: decoded or failed, or one of the refusals 1 to 8, its place of 16 bits
 --   ending s            == how an answer ends: number and place of the refusal, or the outcome
 --   ResultTells         == different ends give different returned numbers
 --   AnswerTells         == and with the report's bytes the whole answer is told
 --   ReportBack          == the report's numbers are read back from its bytes
---   LevelBack           == a level is read back from its byte
---   LevelBytesBack      == and each of a list of levels from the byte in its place
+--   LevelBack           == a level is read back from its number of 16 bits
+--   LevelBytesBack      == and each of a list of levels from the two bytes in its place
 -- proofs/Tells.antt proves them. Assumes nothing.
-use Prim.Native.Nat.{ℕ, _≤_, _<_}
+use Prim.Native.Nat.{ℕ, _*_, _≤_, _<_}
 use mathlib.Core.Path.{_≡_}
 use mathlib.Core.List.{List, [], _∷_}
 use lib.IntN.{ℤ, pos, natAbs}
 use lib.ListN.{length, getD}
 use Rattle.answers.specs.Paper.Answers.{Said, refusal, report, count, stored, acceptance}
 use Rattle.byte_numbers.specs.Paper.Numbers.{number16}
-use Rattle.firmware_codes.specs.Paper.Codes.{resultOf, reportBytes, levelByte, levelBytes, levelIn}
+use Rattle.quantiser_levels.specs.Paper.Samples.{mostLevel}
+use Rattle.firmware_codes.specs.Paper.Codes.{resultOf, reportBytes, levelNumber, levelBytes, levelIn}
 
 -- "0 for decoded, 1 for failed, else refusal number × 65,536 + place"; the face has no refusals but 1 to 8
 abbrev pub Told : Said → Type 0
@@ -47,11 +48,11 @@ pub record ReportBack (o r f c : ℕ) : Type 0 where
   pub changed : number16 (reportBytes (report o r f c)) 4 ≡ c
   pub zero : number16 (reportBytes (report o r f c)) 6 ≡ 0
 
--- a stored level is read back from its byte
+-- a stored level is read back from its number
 abbrev pub LevelBack : Type 0
-LevelBack = (l : ℤ) → natAbs l ≤ 127 → levelIn (levelByte l) ≡ l
+LevelBack = (l : ℤ) → natAbs l ≤ mostLevel → levelIn (levelNumber l) ≡ l
 
--- and each of a list of levels from the byte in its place
+-- and each of a list of levels from the two bytes in its place
 pub record LevelBytesBack (ls : List ℤ) : Type 0 where
-  pub long : length (levelBytes ls) ≡ length ls
-  pub back : (j : ℕ) → j < length ls → natAbs (getD ls j (pos 0)) ≤ 127 → levelIn (getD (levelBytes ls) j 0) ≡ getD ls j (pos 0)
+  pub long : length (levelBytes ls) ≡ 2 * length ls
+  pub back : (j : ℕ) → j < length ls → natAbs (getD ls j (pos 0)) ≤ mostLevel → levelIn (number16 (levelBytes ls) (2 * j)) ≡ getD ls j (pos 0)

@@ -1,9 +1,9 @@
--- What leaves the firmware's face: one returned number, and bytes. (Document 02, card 3.)
+-- What leaves the firmware's face: one returned number, and bytes. (Document 02, cards 3 and 7.)
 --   resultOf s       == the returned number of an answer: its outcome, or refusal number × 65,536 + place
 --   reportBytes s    == the eight bytes of a report: rounds, failing, changed and a zero
---   levelByte l      == a level as one byte in two's complement
---   levelBytes ls    == levels as bytes, one each
---   levelIn b        == the level that a byte is
+--   levelNumber l    == a level as a number of 16 bits in two's complement
+--   levelBytes ls    == levels as bytes, two each, low byte first
+--   levelIn x        == the level that such a number is
 -- Assumes nothing.
 use Prim.Native.Nat.{ℕ, _+_, _-_, _*_}
 use mathlib.Core.Bool.{cond}
@@ -11,7 +11,7 @@ use mathlib.Core.List.{List, [], _∷_, _++_}
 use lib.Dec.{ltb}
 use lib.IntN.{ℤ, pos, negsuc}
 use lib.ListN.{length, getD}
-use Rattle.counting.specs.Paper.Lists.{listed}
+use Rattle.counting.specs.Paper.Joined.{joined}
 use Rattle.byte_numbers.specs.Paper.Numbers.{bytes16}
 use Rattle.answers.specs.Paper.Answers.{Said, refusal, report, count, stored, acceptance}
 
@@ -31,15 +31,15 @@ reportBytes (count k) = []
 reportBytes (stored k) = []
 reportBytes acceptance = []
 
--- "one byte each in two's complement": -1 is 255
-abbrev pub levelByte : ℤ → ℕ
-levelByte (pos k) = k
-levelByte (negsuc k) = 255 - k
+-- "in two's complement", of 16 bits: -1 is 65,535
+abbrev pub levelNumber : ℤ → ℕ
+levelNumber (pos k) = k
+levelNumber (negsuc k) = 65535 - k
 
--- "levels leave as one byte each"
+-- "The C face writes two bytes a level, low byte first"
 unfoldable pub levelBytes : List ℤ → List ℕ
-levelBytes ls = listed (length ls) (λ j. levelByte (getD ls j (pos 0)))
+levelBytes ls = joined (length ls) (λ j. bytes16 (levelNumber (getD ls j (pos 0))))
 
--- two's complement read back: a byte of 128 or more is that number less 256
+-- two's complement read back: a number of 32,768 or more is that number less 65,536
 abbrev pub levelIn : ℕ → ℤ
-levelIn b = cond (ltb b 128) (pos b) (negsuc (255 - b))
+levelIn x = cond (ltb x 32768) (pos x) (negsuc (65535 - x))

@@ -3,12 +3,13 @@ use mathlib.Core.Path.{_≡_, sym, ap, _∙_}
 use Prim.Native.Nat.{_-_, _≤_}
 use native.Mathlib.Nat.{le-antisymm}
 use native.Mathlib.Omega.{arith}
+use borrow.Author.Needs.{needs}
 use lib.IntN.{ℤ}
-use mir.Syntax.{w8}
 use mir.ValLaws.{toZ-ofZ}
 use Rattle.counting.specs.Paper.Lists.{listed, over}
 use Rattle.counting.specs.Places.{at}
 use Rattle.counting.proofs.Writes.{over-none, over-step}
+use Rattle.quantiser_levels.proofs.Signs.{cell}
 use Rattle.iterative_changed.specs.Marks.{markOf, markedBy}
 use Rattle.iterative_changed.proofs.mark.Statement.{statement}
 use Rattle.iterative_changed.proofs.mark.Tie as tie
@@ -21,6 +22,9 @@ abbrev μ-loop : tie.MeasureT-loop
 
 loop-holds : tie.Need-loop-holds Inv-loop μ-loop
 loop-holds c = (omega arith, sym (over-none _ _))
+
+mul-mark-one : tie.Need-mul-mark-one Inv-loop μ-loop
+mul-mark-one c = search needs
 
 shared-slice-copy-out-mark-one : tie.Need-shared-slice-copy-out-mark-one Inv-loop μ-loop
 shared-slice-copy-out-mark-one c = omega arith
@@ -49,7 +53,7 @@ loop-again c =
       over-step (l .loop .j) (markedBy (a .opened .now) z) (a .marks .now) (l .loop .marks) (l .loop .inv .1) _
           (omega (arith, l .before .pre .2))
           (c .mark-one .ensures
-          ∙ ap (λ (r : ℤ). markOf r (z (l .loop .j))) (toZ-ofZ w8 _ (record { sfits = c .before .before .mark-one-arg .given }))),
+          ∙ ap (λ (r : ℤ). markOf r (z (l .loop .j))) (toZ-ofZ cell _ (record { sfits = c .before .before .mark-one-arg .given }))),
     )
 
 returns : tie.Need-returns Inv-loop μ-loop
@@ -62,6 +66,7 @@ mark-spec =
     Inv-loop
     μ-loop
     loop-holds
+    mul-mark-one
     shared-slice-copy-out-mark-one
     element-copy-out-mark-one
     mark-one-requires

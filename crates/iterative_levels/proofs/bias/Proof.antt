@@ -3,13 +3,14 @@ use mathlib.Core.Path.{_≡_, ap, _∙_}
 use Prim.Native.Nat.{_-_, _≤_, _<_}
 use native.Mathlib.Nat.{le-antisymm}
 use native.Mathlib.Omega.{arith}
+use borrow.Author.Needs.{needs}
 use lib.IntN.{pos}
 use lib.ListN.{getD}
-use mir.Syntax.{w8}
 use mir.Val.{toZ, ofZ}
 use mir.ValLaws.{toZ-ofZ}
 use Rattle.iterative_levels.specs.Levels.{biased, Biased}
-use Rattle.iterative_levels.proofs.Signs.{level-byte}
+use Rattle.quantiser_levels.proofs.Signs.{cell}
+use Rattle.iterative_levels.proofs.Signs.{level-cell}
 use Rattle.iterative_levels.proofs.Passes.{biased-none, biased-step}
 use Rattle.iterative_levels.proofs.bias.Statement.{statement}
 use Rattle.iterative_levels.proofs.bias.Tie as tie
@@ -25,15 +26,18 @@ abbrev entered : tie.At-loop Inv-loop μ-loop → tie.Start Inv-loop μ-loop
 entered l = l .before
 
 -- the level that is read is the machine's
-byte-back : (l : tie.At-loop Inv-loop μ-loop) → l .loop .j < entered l .args .n
-    → toZ w8 (ofZ w8 (getD (entered l .args .levels .now) (l .loop .j) (pos 0))) ≡ getD (entered l .args .levels .now) (l .loop .j) (pos 0)
-byte-back l h =
+cell-back : (l : tie.At-loop Inv-loop μ-loop) → l .loop .j < entered l .args .n
+    → toZ cell (ofZ cell (getD (entered l .args .levels .now) (l .loop .j) (pos 0))) ≡ getD (entered l .args .levels .now) (l .loop .j) (pos 0)
+cell-back l h =
     let p = entered l .pre .0 in
     let r = getD (entered l .args .levels .now) (l .loop .j) (pos 0) in
-    toZ-ofZ w8 r (level-byte r (entered l .args .middle) (p .largest) (p .within (l .loop .j) h))
+    toZ-ofZ cell r (level-cell r (entered l .args .middle) (p .largest) (p .within (l .loop .j) h))
 
 loop-holds : tie.Need-loop-holds Inv-loop μ-loop
 loop-holds c = (omega arith, biased-none _ _ _ (c .pre .1))
+
+mul-bias-one : tie.Need-mul-bias-one Inv-loop μ-loop
+mul-bias-one c = search needs
 
 shared-slice-copy-out-bias-one : tie.Need-shared-slice-copy-out-bias-one Inv-loop μ-loop
 shared-slice-copy-out-bias-one c = omega arith
@@ -43,7 +47,10 @@ bias-one-requires c κs =
     let l = c .before .before in
     let p = entered l .pre .0 in
     let w = p .within (l .loop .j) (omega arith) in
-    (p .largest, rw (byte-back l (omega arith)) w)
+    (p .largest, rw (cell-back l (omega arith)) w)
+
+mul-kept : tie.Need-mul-kept Inv-loop μ-loop
+mul-kept c = search needs
 
 element-write-kept : tie.Need-element-write-kept Inv-loop μ-loop
 element-write-kept c = omega arith
@@ -61,7 +68,7 @@ loop-again c =
       omega arith,
       biased-step (l .loop .j) (a .middle) (a .levels .now) (a .kept .now) (l .loop .kept) (l .loop .inv .1)
           (omega (arith, entered l .pre .0 .columns)) (c .bias-one .result)
-          (c .bias-one .ensures ∙ ap (biased (a .middle)) (byte-back l (omega arith))),
+          (c .bias-one .ensures ∙ ap (biased (a .middle)) (cell-back l (omega arith))),
     )
 
 returns : tie.Need-returns Inv-loop μ-loop
@@ -74,8 +81,10 @@ bias-spec =
     Inv-loop
     μ-loop
     loop-holds
+    mul-bias-one
     shared-slice-copy-out-bias-one
     bias-one-requires
+    mul-kept
     element-write-kept
     add-j
     loop-less

@@ -3,18 +3,13 @@ use mathlib.Core.Path.{ap}
 use native.Mathlib.Omega.{arith}
 use borrow.Author.Needs.{needs}
 use lib.IntN.{natAbs}
-use mir.Syntax.{w8}
-use mir.ValLaws.{toZ-ofZ}
 use Rattle.iterative_levels.proofs.Levels.{biased-le}
-use Rattle.iterative_levels.proofs.Signs.{wider, sum-fits, sum-back}
+use Rattle.iterative_levels.proofs.Signs.{sum-fits, sum-back}
 use Rattle.iterative_levels.proofs.bias_one.Statement.{statement}
 use Rattle.iterative_levels.proofs.bias_one.Tie as tie
 
 cast-s : tie.Need-cast-s
-cast-s c = rw (toZ-ofZ w8 (c .args .r) (c .fits .r)) (wider (c .args .r) (c .fits .r))
-
-cast-s-2 : tie.Need-cast-s-2
-cast-s-2 c = search needs
+cast-s c = search needs
 
 add-s : tie.Need-add-s
 add-s c = sum-fits (c .args .r) (c .args .middle) (c .pre .0) (c .pre .1) (c .fits .r)
@@ -28,4 +23,4 @@ returns : tie.Need-returns
 returns c = ap natAbs (sum-back (c .args .r) (c .args .middle) (c .pre .0) (c .pre .1) (c .fits .r))
 
 pub bias-one-spec : {M : Type 1} → statement M
-bias-one-spec = tie.close (tie.spec cast-s cast-s-2 add-s cast-result returns)
+bias-one-spec = tie.close (tie.spec cast-s add-s cast-result returns)

@@ -3,12 +3,12 @@ use mathlib.Core.Path.{_≡_, sym, _∙_}
 use Prim.Native.Nat.{_-_, _≤_}
 use native.Mathlib.Nat.{le-antisymm}
 use native.Mathlib.Omega.{arith}
-use borrow.Author.Needs.{sfits-of}
-use mir.Syntax.{w8}
+use borrow.Author.Needs.{needs, sfits-of}
 use mir.ValLaws.{toZ-ofZ}
 use lib.ListN.{length}
 use Rattle.counting.specs.Paper.Lists.{listed, over}
 use Rattle.counting.proofs.Writes.{over-none, over-long, over-step}
+use Rattle.quantiser_levels.proofs.Signs.{cell}
 use Rattle.iterative_levels.specs.Levels.{unbiased}
 use Rattle.iterative_levels.proofs.unbias.Statement.{statement}
 use Rattle.iterative_levels.proofs.unbias.Tie as tie
@@ -27,6 +27,9 @@ long l =
 loop-holds : tie.Need-loop-holds Inv-loop μ-loop
 loop-holds c = (omega arith, sym (over-none _ _))
 
+mul-unbias-one : tie.Need-mul-unbias-one Inv-loop μ-loop
+mul-unbias-one c = search needs
+
 element-copy-out-unbias-one : tie.Need-element-copy-out-unbias-one Inv-loop μ-loop
 element-copy-out-unbias-one c = omega arith
 
@@ -35,6 +38,9 @@ unbias-one-requires c κs =
     let l = c .before .before in
     let p = l .before .pre in
     (p .largest, p .within (l .loop .j) (omega arith))
+
+mul-r : tie.Need-mul-r Inv-loop μ-loop
+mul-r c = search needs
 
 slice-set-from-r : tie.Need-slice-set-from-r Inv-loop μ-loop
 slice-set-from-r c =
@@ -54,7 +60,7 @@ loop-again c =
     let a = l .before .args in (
       omega arith,
       over-step (l .loop .j) (unbiased (a .middle) (a .kept .now)) (a .levels .now) (l .loop .levels) (l .loop .inv .1) _ (omega (arith, l .before .pre .room))
-          (toZ-ofZ w8 (c .unbias-one .result) (sfits-of (c .unbias-one .ok)) ∙ c .unbias-one .ensures),
+          (toZ-ofZ cell (c .unbias-one .result) (sfits-of (c .unbias-one .ok)) ∙ c .unbias-one .ensures),
     )
 
 same-length : tie.Need-same-length Inv-loop μ-loop
@@ -70,8 +76,10 @@ unbias-spec =
     Inv-loop
     μ-loop
     loop-holds
+    mul-unbias-one
     element-copy-out-unbias-one
     unbias-one-requires
+    mul-r
     slice-set-from-r
     add-j
     loop-less

@@ -1,6 +1,6 @@
 -- `iterative_levels::update` meets its contract. The invariant: the first j bits and levels are those of the next round, the others as they were.
 -- Assumes nothing.
-use Prim.Native.Nat.{_-_, _≤_}
+use Prim.Native.Nat.{_-_, _≤_, _<_}
 use native.Mathlib.Nat.{le-antisymm}
 use native.Mathlib.Omega.{arith}
 use borrow.Author.Needs.{needs}
@@ -19,6 +19,9 @@ abbrev μ-loop : tie.MeasureT-loop
 loop-holds : tie.Need-loop-holds Inv-loop μ-loop
 loop-holds c = (omega arith, moved-none _ _ _ _ _ _ (c .pre .1) (c .pre .2))
 
+mul-next-level : tie.Need-mul-next-level Inv-loop μ-loop
+mul-next-level c = search needs
+
 element-copy-out-next-level : tie.Need-element-copy-out-next-level Inv-loop μ-loop
 element-copy-out-next-level c = omega arith
 
@@ -32,7 +35,14 @@ element-copy-out-next-level-4 : tie.Need-element-copy-out-next-level-4 Inv-loop 
 element-copy-out-next-level-4 c = omega arith
 
 next-level-requires : tie.Need-next-level-requires Inv-loop μ-loop
-next-level-requires c κs = c .before .before .before .before .before .before .pre .0 .levels
+next-level-requires c κs =
+    let l = c .before .before .before .before .before in
+    let p = l .before .pre .0 in
+    let h : l .loop .j < l .before .args .n = omega arith in
+    (omega (arith, l .loop .inv .1 .rest-levels (l .loop .j) (omega arith), p .within (l .loop .j) h), p .levels)
+
+mul-levels : tie.Need-mul-levels Inv-loop μ-loop
+mul-levels c = search needs
 
 element-write-levels : tie.Need-element-write-levels Inv-loop μ-loop
 element-write-levels c = omega arith
@@ -70,11 +80,13 @@ update-spec =
     Inv-loop
     μ-loop
     loop-holds
+    mul-next-level
     element-copy-out-next-level
     element-copy-out-next-level-2
     element-copy-out-next-level-3
     element-copy-out-next-level-4
     next-level-requires
+    mul-levels
     element-write-levels
     is-above-requires
     element-write-bits

@@ -1,5 +1,6 @@
 -- `iterative_rounds::round` meets its contract: each bit is moved by its column's weight, and what `update` leaves are bits, so that their votes
 -- can be tallied. Assumes nothing.
+use native.Mathlib.Omega.{arith}
 use borrow.Author.Needs.{needs}
 use Rattle.matrix.specs.Paper.Shapes.{matrixOf}
 use Rattle.iterative_rounds.proofs.States.{weighed-moved}
@@ -14,7 +15,10 @@ mul-ceiling : tie.Need-mul-ceiling
 mul-ceiling c = search needs
 
 update-requires : tie.Need-update-requires
-update-requires c κs = search needs
+update-requires c κs =
+    let z = c .before .before .before .before .before .before .before in
+    let p = z .pre .0 in
+    (record { columns = p .matrix .sizes .n-most; levels = omega (arith, p .largest); within = p .within }, p .long-word, p .long-levels)
 
 retally-requires : tie.Need-retally-requires
 retally-requires c κs =

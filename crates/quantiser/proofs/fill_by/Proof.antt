@@ -38,6 +38,9 @@ level-by-requires c κs =
     let room = z .pre .1 in
     (z .pre .0, all-finite (z .args .samples .now) (room .each-finite) (c .before .before .loop .j) (c .before .loop-test .taken))
 
+mul-v : tie.Need-mul-v Inv-loop μ-loop
+mul-v c = search needs
+
 slice-set-from-v : tie.Need-slice-set-from-v Inv-loop μ-loop
 slice-set-from-v c = search needs
 
@@ -94,6 +97,7 @@ fill-by-spec =
     mul-x
     shared-slice-read-x
     level-by-requires
+    mul-v
     slice-set-from-v
     hard-bit-requires
     slice-write-cells

@@ -1,4 +1,4 @@
--- `quantiser_levels::largest_of` meets its contract: the shift loses nothing, and the largest level is a byte's. Assumes nothing.
+-- `quantiser_levels::largest_of` meets its contract: the shift loses nothing. Assumes nothing.
 use mathlib.Core.Path.{_≡_, ap, _∙_}
 use Prim.Native.Nat.{ℕ, _-_, _*_, _^_, _%_, _≤_}
 use borrow.Author.Needs.{needs}
@@ -12,23 +12,17 @@ use Rattle.quantiser_levels.proofs.largest_of.Tie as tie
 power : (c : tie.Start) → 1 * 2 ^ (c .args .bits - 1) % 2 ^ 16 ≡ 2 ^ (c .args .bits - 1)
 power c = shl-exact 1 (c .args .bits - 1) 16 (lit< tt) (omega arith) ∙ one-mul _
 
-small : (c : tie.Start) → 2 ^ (c .args .bits - 1) ≤ 2 ^ 7
-small c = pow-mono {j = 7} (omega arith)
+sub-result : tie.Need-sub-result
+sub-result c = search needs
 
-sub-top : tie.Need-sub-top
-sub-top c = search needs
+shl-result : tie.Need-shl-result
+shl-result c = search needs
 
-shl-top : tie.Need-shl-top
-shl-top c = search needs
-
-sub-top-2 : tie.Need-sub-top-2
-sub-top-2 c = omega (arith, power c, pow-pos (c .args .bits - 1))
-
-cast-result : tie.Need-cast-result
-cast-result c = record { fits = omega (arith, power c, small c) }
+sub-result-2 : tie.Need-sub-result-2
+sub-result-2 c = omega (arith, power c, pow-pos (c .args .bits - 1))
 
 returns : tie.Need-returns
 returns c = ap (λ (n : ℕ). n - 1) (power c)
 
 pub largest-of-spec : {M : Type 1} → statement M
-largest-of-spec = tie.close (tie.spec sub-top shl-top sub-top-2 cast-result returns)
+largest-of-spec = tie.close (tie.spec sub-result shl-result sub-result-2 returns)

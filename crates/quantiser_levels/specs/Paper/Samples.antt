@@ -1,8 +1,9 @@
--- Settings, levels and hard bits. (Document 01, "Samples and levels"; refusals 6, 7 and 8.)
+-- Settings, levels and hard bits. (Document 01, "Samples and levels"; refusals 6, 7 and 8; document 02, card 7.)
 --   unitsOf x            == the whole number of 2 ^ -149 that the magnitude of x is
 --   negative x           == x has a minus sign, that of -0 too
 --   Setting              == a setting: bit width, round limit, kind of step (0 level step, 1 full scale) and step
 --   mostBits, mostLevel  == the widest level, and the largest of that width
+--   rangesFitUpTo most b limit, settingFitsUpTo most S   == the bit width and the round limit, the setting are in range where widths end at `most`
 --   rangesFit b limit    == the bit width and the round limit are in range
 --   stepFits d, settingFits S   == the step, the setting is in range
 --   largest b            == L, the largest level of b bits
@@ -48,25 +49,32 @@ pub record Setting : Type 0 where
   pub kind : ℕ
   pub step : Float
 
--- the widest level
+-- "Let b go to 12": the widest level
 abbrev pub mostBits : ℕ
-mostBits = 8
+mostBits = 12
 
 -- L at that width
 abbrev pub mostLevel : ℕ
-mostLevel = 127
+mostLevel = 2047
 
 -- "a finite single-format float from 2^−20 to 2^20, both ends included"
 unfoldable pub stepFits : Float → Bool
 stepFits x = le (fin false 1 (negsuc 19)) x && le x (fin false 1 (pos 20))
 
--- "The width b is 2 to 8 .. The round limit is 0 to 255"
-abbrev pub rangesFit : ℕ → ℕ → Bool
-rangesFit bits limit = leb 2 bits && (leb bits mostBits && leb limit 255)
+-- "The width b is 2 to 8 .. The round limit is 0 to 255", for any widest level in the place of 8
+abbrev pub rangesFitUpTo : ℕ → ℕ → ℕ → Bool
+rangesFitUpTo most bits limit = leb 2 bits && (leb bits most && leb limit 255)
 
 -- these two in range, and the step of one of two kinds and in range
+abbrev pub settingFitsUpTo : ℕ → Setting → Bool
+settingFitsUpTo most S = rangesFitUpTo most (S .bits) (S .limit) && (leb (S .kind) 1 && stepFits (S .step))
+
+-- "Refusals 6 and 20 now take b as out of range from 13"
+abbrev pub rangesFit : ℕ → ℕ → Bool
+rangesFit bits limit = rangesFitUpTo mostBits bits limit
+
 unfoldable pub settingFits : Setting → Bool
-settingFits S = rangesFit (S .bits) (S .limit) && (leb (S .kind) 1 && stepFits (S .step))
+settingFits S = settingFitsUpTo mostBits S
 
 -- "L = 2^(b − 1) − 1"
 abbrev pub largest : ℕ → ℕ

@@ -1,4 +1,4 @@
--- `quantiser_settings::scale_of` meets its contract: a setting in range has a gain and a largest level of at most 7 bits,
+-- `quantiser_settings::scale_of` meets its contract: a setting in range has a gain and a largest level of at most 11 bits,
 -- and a step with its leading one. Assumes nothing.
 use mathlib.Core.Path.{_≡_, refl, ap, _∙_}
 use mathlib.Core.Bool.{true, cond}

@@ -6,10 +6,10 @@ use native.Mathlib.Omega.{arith}
 use borrow.Author.Needs.{needs}
 use lib.IntN.{pos, natAbs}
 use lib.ListN.{getD}
-use mir.Syntax.{w8}
 use mir.Val.{toZ, ofZ}
 use mir.ValLaws.{toZ-ofZ}
 use Rattle.counting.specs.Paper.Search.{anyBelow}
+use Rattle.quantiser_levels.proofs.Signs.{cell}
 use Rattle.session_asking.specs.Parts.{far}
 use Rattle.session_asking.proofs.Questions.{far-found, far-more}
 use Rattle.session_asking.proofs.any_far.Statement.{statement}
@@ -22,14 +22,17 @@ abbrev μ-loop : tie.MeasureT-loop
 μ-loop levels n middle j₀ j = n - j
 
 -- the level that is read is the machine's
-byte-back : (c : tie.After-r Inv-loop μ-loop)
-    → toZ w8 (ofZ w8 (getD (c .before .before .before .args .levels .now) (c .before .before .loop .j) (pos 0)))
+cell-back : (c : tie.After-r Inv-loop μ-loop)
+    → toZ cell (ofZ cell (getD (c .before .before .before .args .levels .now) (c .before .before .loop .j) (pos 0)))
     ≡ getD (c .before .before .before .args .levels .now) (c .before .before .loop .j) (pos 0)
-byte-back c = toZ-ofZ w8 _ (record { sfits = c .r .given })
+cell-back c = toZ-ofZ cell _ (record { sfits = c .r .given })
 
 loop-holds : tie.Need-loop-holds Inv-loop μ-loop
 unfolding anyBelow
 loop-holds c = search needs
+
+mul-r : tie.Need-mul-r Inv-loop μ-loop
+mul-r c = search needs
 
 shared-slice-copy-out-r : tie.Need-shared-slice-copy-out-r Inv-loop μ-loop
 shared-slice-copy-out-r c = search needs
@@ -42,7 +45,7 @@ returns c =
     let l = c .before .before .before .before in
     let a = l .before .args in
     far-found (a .middle) (a .levels .now) (a .n) (l .loop .j) (c .before .magnitude .result) (omega arith)
-    (c .before .magnitude .ensures ∙ ap natAbs (byte-back (c .before .before))) (c .if1 .taken)
+    (c .before .magnitude .ensures ∙ ap natAbs (cell-back (c .before .before))) (c .if1 .taken)
 
 add-j : tie.Need-add-j Inv-loop μ-loop
 add-j c = search needs
@@ -56,7 +59,7 @@ loop-again c =
     let a = l .before .args in (
       omega arith,
       far-more (a .middle) (a .levels .now) (l .loop .j) (c .before .magnitude .result) (l .loop .inv .1)
-          (c .before .magnitude .ensures ∙ ap natAbs (byte-back (c .before .before))) (c .if1 .left),
+          (c .before .magnitude .ensures ∙ ap natAbs (cell-back (c .before .before))) (c .if1 .left),
     )
 
 returns-2 : tie.Need-returns-2 Inv-loop μ-loop
@@ -73,6 +76,7 @@ any-far-spec =
     Inv-loop
     μ-loop
     loop-holds
+    mul-r
     shared-slice-copy-out-r
     magnitude-requires
     returns

@@ -52,7 +52,7 @@ use denote.Triple.Clauses.{ensured, lasts}
 use denote.Triple.Table.{entered, cited}
 use denote.Triple.Walked.{says, Stays, stay-ref, stay-dropped, gave-slice, walkOf, AllGo, goes-ref, goes-dropped, goes-gave-slice, Walks, ends-at, walked}
 use denote.Triple.Walked.{walk-meets}
-use denote.Builtin.{f32, i8, u16, u8}
+use denote.Builtin.{f32, i16, u16, u8}
 use Rattle.session_record.specs.declared.Session.{Session}
 use Rattle.session_record.specs.declared.Turn.{Turn}
 use Rattle.session_record.proofs.Session as T
@@ -88,7 +88,7 @@ stayed = (
         stay-dropped (plain (λ _. Setting-type.the-row)) yes,
         (
           stay-dropped (shrSliceOf (2 ∷ []) tt (plain (λ _. f32))) yes,
-          (gave-slice (3 ∷ []) tt (plain (λ _. u8)), (gave-slice (4 ∷ []) tt (plain (λ _. i8)), tt)),
+          (gave-slice (3 ∷ []) tt (plain (λ _. u8)), (gave-slice (4 ∷ []) tt (plain (λ _. i16)), tt)),
         ),
       ),
     ),
@@ -145,7 +145,7 @@ module _ {M : Type 1} (𝓤 : URA M) (H : Heap 𝓤) (A : Atoms 𝓤) (W : Given
   abbrev other-rows : List RattleType
   other-rows =
       Shape-type.the-row ∷ ShrSlice (named 1) κ₁ u16 ∷ Setting-type.the-row ∷ ShrSlice (named 2) κ₂ f32 ∷ MutSlice (named 3) κ₃ u8 ∷
-      MutSlice (named 4) κ₄ i8 ∷ []
+      MutSlice (named 4) κ₄ i16 ∷ []
 
   abbrev Arg : Type 0
   Arg = RefT Session × Others
@@ -175,10 +175,10 @@ module _ {M : Type 1} (𝓤 : URA M) (H : Heap 𝓤) (A : Atoms 𝓤) (W : Given
   exits : (r : Turn) (word-last : List ℕ) (levels-last : List ℤ) → Gives h shape list setting samples word levels r word-last levels-last
       → length word-last ≡ length (now word) → length levels-last ≡ length (now levels) → Is Ans.the-row (r .answer) (machA (r .answer) ∷ [])
       → ent 𝓤 (⋆ 𝓤 H A (‵ (fobs γ (T.the-row .coded .code (r .session))) ∷ ‵ (fbor κ₀ (Body (mem T.the-row) b o γ)) ∷ ‵ (flft κ₀ q₀) ∷ tokens ∷
-      ‵ (finally i8 (levels .name) levels-last) ∷ ‵ (finally u8 (word .name) word-last) ∷ [])) (Post (machA (r .answer)))
+      ‵ (finally i16 (levels .name) levels-last) ∷ ‵ (finally u8 (word .name) word-last) ∷ [])) (Post (machA (r .answer)))
   exits r word-last levels-last e l-word l-levels isA =
       qed W (‵ (fobs γ (T.the-row .coded .code (r .session))) ∷ ‵ (fbor κ₀ (Body (mem T.the-row) b o γ)) ∷ ‵ (flft κ₀ q₀) ∷ tokens ∷
-      ‵ (finally i8 (levels .name) levels-last) ∷ ‵ (finally u8 (word .name) word-last) ∷ []) ∵
+      ‵ (finally i16 (levels .name) levels-last) ∷ ‵ (finally u8 (word .name) word-last) ∷ []) ∵
       suffices ! _ (ends-at 𝓤 H A f.ended stayed (f.clauses 𝓤 H A at-mem run)
       W (((κ₀, (κ₁, (κ₂, (κ₃, (κ₄, tt))))), (q₀, (q₁, (q₂, (q₃, (q₄, tt))))), bounds, a, vals), tt) (machA (r .answer)) (r .answer)
       (r .session, (tt, (tt, (tt, (tt, (word-last, (levels-last, tt))))))) (tt, (tt, (tt, (tt, (tt, (l-word, (l-levels, tt)))))))) $
@@ -191,7 +191,7 @@ module _ {M : Type 1} (𝓤 : URA M) (H : Heap 𝓤) (A : Atoms 𝓤) (W : Given
   module _ (C : Calls 𝓤 H) (Λ : Loops 𝓤 H) (fm : FmC 𝓤 H (W .laws) C) (known : Triple 𝓤 (C #callee) (Callee 𝓤 H A at-mem run))
       (p-shape : Is Shape-type.the-row shape (mach-Shape shape ∷ [])) (p-list : Is (ShrSlice (named 1) κ₁ u16) list (lies list ∷ []))
       (p-setting : Is Setting-type.the-row setting (mach-Setting setting ∷ [])) (p-samples : Is (ShrSlice (named 2) κ₂ f32) samples (lies samples ∷ []))
-      (p-word : Is (MutSlice (named 3) κ₃ u8) word (lies word ∷ [])) (p-levels : Is (MutSlice (named 4) κ₄ i8) levels (lies levels ∷ [])) where
+      (p-word : Is (MutSlice (named 3) κ₃ u8) word (lies word ∷ [])) (p-levels : Is (MutSlice (named 4) κ₄ i16) levels (lies levels ∷ [])) where
     walk : ent 𝓤 (onEntry 𝓤 H A f.signature (κ₀, (κ₁, (κ₂, (κ₃, (κ₄, tt))))) (q₀, (q₁, (q₂, (q₃, (q₄, tt))))) a vals)
         (WpFn 𝓤 H C Λ code.function (vptr b o ∷ other-args) Post)
     walk =
@@ -287,7 +287,7 @@ module _ {M : Type 1} (𝓤 : URA M) (H : Heap 𝓤) (A : Atoms 𝓤) (W : Given
               LL.tells Setting-type.the-type Setting-laws.the-laws,
               (
                 shr-slice-tells (named 2) (κs .1 .1 .0) f32,
-                (mut-slice-tells (named 3) (κs .1 .1 .1 .0) u8, (mut-slice-tells (named 4) (κs .1 .1 .1 .1 .0) i8, tt)),
+                (mut-slice-tells (named 3) (κs .1 .1 .1 .0) u8, (mut-slice-tells (named 4) (κs .1 .1 .1 .1 .0) i16, tt)),
               ),
             ),
           ),
@@ -310,7 +310,7 @@ module _ {M : Type 1} (𝓤 : URA M) (H : Heap 𝓤) (A : Atoms 𝓤) (W : Given
           goes-dropped 𝓤 H A W 5 (plain (λ _. Setting-type.the-row)) yes (λ κs x f. refl),
           (
             goes-dropped 𝓤 H A W 5 (shrSliceOf (2 ∷ []) tt (plain (λ _. f32))) yes (λ κs x f. refl),
-            (goes-gave-slice 𝓤 H A W 5 3 tt (plain (λ _. u8)), (goes-gave-slice 𝓤 H A W 5 4 tt (plain (λ _. i8)), tt)),
+            (goes-gave-slice 𝓤 H A W 5 3 tt (plain (λ _. u8)), (goes-gave-slice 𝓤 H A W 5 4 tt (plain (λ _. i16)), tt)),
           ),
         ),
       ),

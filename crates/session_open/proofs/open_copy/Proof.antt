@@ -51,7 +51,7 @@ use denote.Triple.Call.{calls-at}
 use denote.Triple.Clauses.{ensured, lasts}
 use denote.Triple.Table.{entered, cited}
 use denote.Triple.Walked.{says, Stays, stay-dropped, gave-slice, walkOf, AllGo, goes-dropped, goes-gave-slice, Walks, ends-at, walked, walk-meets}
-use denote.Builtin.{f32, i8, u16, u8}
+use denote.Builtin.{f32, i16, u16, u8}
 use Rattle.session_record.specs.declared.Session.{Session}
 use Rattle.session_record.specs.declared.Turn.{Turn}
 use Rattle.session_record.proofs.Session as T
@@ -87,7 +87,7 @@ stayed = (
         stay-dropped (plain (λ _. Setting-type.the-row)) yes,
         (
           stay-dropped (shrSliceOf (1 ∷ []) tt (plain (λ _. f32))) yes,
-          (gave-slice (2 ∷ []) tt (plain (λ _. u8)), (gave-slice (3 ∷ []) tt (plain (λ _. i8)), tt)),
+          (gave-slice (2 ∷ []) tt (plain (λ _. u8)), (gave-slice (3 ∷ []) tt (plain (λ _. i16)), tt)),
         ),
       ),
     ),
@@ -167,7 +167,7 @@ module _ {M : Type 1} (𝓤 : URA M) (H : Heap 𝓤) (A : Atoms 𝓤) (W : Given
   abbrev other-rows : List RattleType
   other-rows =
       Shape-type.the-row ∷ ShrSlice (named 1) κ₀ u16 ∷ Setting-type.the-row ∷ ShrSlice (named 2) κ₁ f32 ∷ MutSlice (named 3) κ₂ u8 ∷
-      MutSlice (named 4) κ₃ i8 ∷ []
+      MutSlice (named 4) κ₃ i16 ∷ []
 
   abbrev Arg : Type 0
   Arg = Session × Others
@@ -204,9 +204,9 @@ module _ {M : Type 1} (𝓤 : URA M) (H : Heap 𝓤) (A : Atoms 𝓤) (W : Given
 
   exits : (t : Session) (z : Answer) (word-last : List ℕ) (levels-last : List ℤ) → Gives h shape list setting samples word levels z t word-last levels-last
       → length word-last ≡ length (now word) → length levels-last ≡ length (now levels) → Is U.the-row (both t z) (machR (both t z) ∷ [])
-      → ent 𝓤 (⋆ 𝓤 H A (tokens ∷ ‵ (finally i8 (levels .name) levels-last) ∷ ‵ (finally u8 (word .name) word-last) ∷ [])) (Post (machR (both t z)))
+      → ent 𝓤 (⋆ 𝓤 H A (tokens ∷ ‵ (finally i16 (levels .name) levels-last) ∷ ‵ (finally u8 (word .name) word-last) ∷ [])) (Post (machR (both t z)))
   exits t z word-last levels-last e l-word l-levels isR =
-      qed W (tokens ∷ ‵ (finally i8 (levels .name) levels-last) ∷ ‵ (finally u8 (word .name) word-last) ∷ []) ∵
+      qed W (tokens ∷ ‵ (finally i16 (levels .name) levels-last) ∷ ‵ (finally u8 (word .name) word-last) ∷ []) ∵
       suffices ! _ (ends-at 𝓤 H A f.ended stayed (f.clauses 𝓤 H A at-mem run) W (((κ₀, (κ₁, (κ₂, (κ₃, tt)))), (q₀, (q₁, (q₂, (q₃, tt)))), tt, a, vals), tt)
       (machR (both t z)) (both t z) (tt, (tt, (tt, (tt, (tt, (word-last, (levels-last, tt))))))) (tt, (tt, (tt, (tt, (tt, (l-word, (l-levels, tt)))))))) $
       says ! e $ frame ! $ nothing ! $ move ! (1 ∷ 0 ∷ []) $ fjoin ! $ move ! (1 ∷ 0 ∷ []) $ fjoin ! $ nothing ! $ fjoin ! $ nothing ! $ fjoin ! $
@@ -216,13 +216,13 @@ module _ {M : Type 1} (𝓤 : URA M) (H : Heap 𝓤) (A : Atoms 𝓤) (W : Given
   module _ (C : Calls 𝓤 H) (Λ : Loops 𝓤 H) (fm : FmC 𝓤 H (W .laws) C) (known : Triple 𝓤 (C #callee) (Callee 𝓤 H A at-mem run))
       (p-shape : Is Shape-type.the-row shape (mach-Shape shape ∷ [])) (p-list : Is (ShrSlice (named 0) κ₀ u16) list (lies list ∷ []))
       (p-setting : Is Setting-type.the-row setting (mach-Setting setting ∷ [])) (p-samples : Is (ShrSlice (named 1) κ₁ f32) samples (lies samples ∷ []))
-      (p-word : Is (MutSlice (named 2) κ₂ u8) word (lies word ∷ [])) (p-levels : Is (MutSlice (named 3) κ₃ i8) levels (lies levels ∷ [])) where
+      (p-word : Is (MutSlice (named 2) κ₂ u8) word (lies word ∷ [])) (p-levels : Is (MutSlice (named 3) κ₃ i16) levels (lies levels ∷ [])) where
     walk : Is T.the-row h (mach h ∷ [])
         → ent 𝓤 (onEntry 𝓤 H A f.signature (κ₀, (κ₁, (κ₂, (κ₃, tt)))) (q₀, (q₁, (q₂, (q₃, tt)))) a vals)
         (WpFn 𝓤 H C Λ code.function (mach h ∷ other-args) Post)
     walk g =
         qed W (tokens ∷ ‵ (owns (T.the-row ∷ Shape-type.the-row ∷ ShrSlice (named 0) κ₀ u16 ∷ Setting-type.the-row ∷ ShrSlice (named 1) κ₁ f32 ∷
-        MutSlice (named 2) κ₂ u8 ∷ MutSlice (named 3) κ₃ i8 ∷ []) a vals) ∷ []) ∵ enter ! C Λ code.function (mach h ∷ other-args) _ $
+        MutSlice (named 2) κ₂ u8 ∷ MutSlice (named 3) κ₃ i16 ∷ []) a vals) ∷ []) ∵ enter ! C Λ code.function (mach h ∷ other-args) _ $
         alloc1 ! (λ l0. alloc1 ! (λ l1. alloc1 ! (λ l2.
         alloc1 ! (λ l3. alloc1 ! (λ l4. alloc1 ! (λ l5.
         alloc1 ! (λ l6. alloc1 ! (λ l7. alloc1 ! (λ l8.
@@ -317,7 +317,7 @@ module _ {M : Type 1} (𝓤 : URA M) (H : Heap 𝓤) (A : Atoms 𝓤) (W : Given
             shr-slice-tells (named 0) (κs .0) u16,
             (
               LL.tells Setting-type.the-type Setting-laws.the-laws,
-              (shr-slice-tells (named 1) (κs .1 .0) f32, (mut-slice-tells (named 2) (κs .1 .1 .0) u8, (mut-slice-tells (named 3) (κs .1 .1 .1 .0) i8, tt))),
+              (shr-slice-tells (named 1) (κs .1 .0) f32, (mut-slice-tells (named 2) (κs .1 .1 .0) u8, (mut-slice-tells (named 3) (κs .1 .1 .1 .0) i16, tt))),
             ),
           ),
         ),
@@ -338,7 +338,7 @@ module _ {M : Type 1} (𝓤 : URA M) (H : Heap 𝓤) (A : Atoms 𝓤) (W : Given
           goes-dropped 𝓤 H A W 4 (plain (λ _. Setting-type.the-row)) yes (λ κs x f. refl),
           (
             goes-dropped 𝓤 H A W 4 (shrSliceOf (1 ∷ []) tt (plain (λ _. f32))) yes (λ κs x f. refl),
-            (goes-gave-slice 𝓤 H A W 4 2 tt (plain (λ _. u8)), (goes-gave-slice 𝓤 H A W 4 3 tt (plain (λ _. i8)), tt)),
+            (goes-gave-slice 𝓤 H A W 4 2 tt (plain (λ _. u8)), (goes-gave-slice 𝓤 H A W 4 3 tt (plain (λ _. i16)), tt)),
           ),
         ),
       ),

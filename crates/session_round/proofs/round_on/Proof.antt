@@ -4,7 +4,7 @@ use Rattle.counting.specs.Places.{at}
 use Rattle.matrix.specs.Paper.Code.{Matrix, Word}
 use Rattle.matrix.specs.Paper.Shapes.{matrixOf}
 use Rattle.syndrome.proofs.Unpacked.{unpacked-word}
-use Rattle.session_round.proofs.Rounds.{next-word, next-restorable, round-left}
+use Rattle.session_round.proofs.Rounds.{lent-bounds, next-word, next-restorable, round-left}
 use Rattle.session_round.proofs.round_on.Statement.{statement}
 use Rattle.session_round.proofs.round_on.Tie as tie
 
@@ -51,7 +51,15 @@ tally-requires c κs =
     (entered u .pre .matrix, unpacked-word (lent-matrix (entered u)) _ _ _ (u .unpack .ensures))
 
 move-levels-requires : tie.Need-move-levels-requires
-move-levels-requires c κs = search needs
+move-levels-requires c κs =
+    let k = kept (c .before .before .before) in
+    let s = entered (unpacked k) in
+    let H = lent-matrix s in (
+      s .pre .matrix,
+      lent-bounds H (s .args .middle) (s .args .word .now) (s .args .levels .now) _ _ (s .pre) (k .bias .ensures),
+      unpacked k .unpack .ensures .long,
+      k .bias .ensures .long,
+    )
 
 pack-into-requires : tie.Need-pack-into-requires
 unfolding Word

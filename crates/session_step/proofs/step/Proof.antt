@@ -50,7 +50,7 @@ use denote.Triple.Clauses.{ensured, lasts}
 use denote.Triple.Table.{entered, cited}
 use denote.Triple.Walked.{says, Stays, stay-ref, stay-dropped, gave-slice, walkOf, AllGo, goes-ref, goes-dropped, goes-gave-slice, Walks, ends-at, walked}
 use denote.Triple.Walked.{walk-meets}
-use denote.Builtin.{i8, u16, u8}
+use denote.Builtin.{i16, u16, u8}
 use Rattle.session_record.specs.declared.Session.{Session}
 use Rattle.session_record.specs.declared.Turn.{Turn}
 use Rattle.session_record.proofs.Session as T
@@ -82,8 +82,8 @@ stayed = (
       (
         stay-dropped (shrSliceOf (2 ∷ []) tt (plain (λ _. u8))) yes,
         (
-          stay-dropped (shrSliceOf (3 ∷ []) tt (plain (λ _. i8))) yes,
-          (gave-slice (4 ∷ []) tt (plain (λ _. u8)), (gave-slice (5 ∷ []) tt (plain (λ _. i8)), tt)),
+          stay-dropped (shrSliceOf (3 ∷ []) tt (plain (λ _. i16))) yes,
+          (gave-slice (4 ∷ []) tt (plain (λ _. u8)), (gave-slice (5 ∷ []) tt (plain (λ _. i16)), tt)),
         ),
       ),
     ),
@@ -135,8 +135,8 @@ module _ {M : Type 1} (𝓤 : URA M) (H : Heap 𝓤) (A : Atoms 𝓤) (W : Given
 
   abbrev other-rows : List RattleType
   other-rows =
-      Shape-type.the-row ∷ ShrSlice (named 1) κ₁ u16 ∷ ShrSlice (named 2) κ₂ u8 ∷ ShrSlice (named 3) κ₃ i8 ∷ MutSlice (named 4) κ₄ u8 ∷
-      MutSlice (named 5) κ₅ i8 ∷ []
+      Shape-type.the-row ∷ ShrSlice (named 1) κ₁ u16 ∷ ShrSlice (named 2) κ₂ u8 ∷ ShrSlice (named 3) κ₃ i16 ∷ MutSlice (named 4) κ₄ u8 ∷
+      MutSlice (named 5) κ₅ i16 ∷ []
 
   abbrev Arg : Type 0
   Arg = RefT Session × Others
@@ -166,10 +166,10 @@ module _ {M : Type 1} (𝓤 : URA M) (H : Heap 𝓤) (A : Atoms 𝓤) (W : Given
   exits : (r : Turn) (word-last : List ℕ) (levels-last : List ℤ) → Gives h shape list received opened word levels r word-last levels-last
       → length word-last ≡ length (now word) → length levels-last ≡ length (now levels) → Is Ans.the-row (r .answer) (machA (r .answer) ∷ [])
       → ent 𝓤 (⋆ 𝓤 H A (‵ (fobs γ (T.the-row .coded .code (r .session))) ∷ ‵ (fbor κ₀ (Body (mem T.the-row) b o γ)) ∷ ‵ (flft κ₀ q₀) ∷ tokens ∷
-      ‵ (finally i8 (levels .name) levels-last) ∷ ‵ (finally u8 (word .name) word-last) ∷ [])) (Post (machA (r .answer)))
+      ‵ (finally i16 (levels .name) levels-last) ∷ ‵ (finally u8 (word .name) word-last) ∷ [])) (Post (machA (r .answer)))
   exits r word-last levels-last e l-word l-levels isA =
       qed W (‵ (fobs γ (T.the-row .coded .code (r .session))) ∷ ‵ (fbor κ₀ (Body (mem T.the-row) b o γ)) ∷ ‵ (flft κ₀ q₀) ∷ tokens ∷
-      ‵ (finally i8 (levels .name) levels-last) ∷ ‵ (finally u8 (word .name) word-last) ∷ []) ∵
+      ‵ (finally i16 (levels .name) levels-last) ∷ ‵ (finally u8 (word .name) word-last) ∷ []) ∵
       suffices ! _ (ends-at 𝓤 H A f.ended stayed (f.clauses 𝓤 H A at-mem run)
       W (((κ₀, (κ₁, (κ₂, (κ₃, (κ₄, (κ₅, tt)))))), (q₀, (q₁, (q₂, (q₃, (q₄, (q₅, tt)))))), bounds, a, vals), tt) (machA (r .answer)) (r .answer)
       (r .session, (tt, (tt, (tt, (tt, (word-last, (levels-last, tt))))))) (tt, (tt, (tt, (tt, (tt, (l-word, (l-levels, tt)))))))) $
@@ -181,8 +181,8 @@ module _ {M : Type 1} (𝓤 : URA M) (H : Heap 𝓤) (A : Atoms 𝓤) (W : Given
 
   module _ (C : Calls 𝓤 H) (Λ : Loops 𝓤 H) (fm : FmC 𝓤 H (W .laws) C) (known : Triple 𝓤 (C #callee) (Callee 𝓤 H A at-mem run))
       (p-shape : Is Shape-type.the-row shape (mach-Shape shape ∷ [])) (p-list : Is (ShrSlice (named 1) κ₁ u16) list (lies list ∷ []))
-      (p-received : Is (ShrSlice (named 2) κ₂ u8) received (lies received ∷ [])) (p-opened : Is (ShrSlice (named 3) κ₃ i8) opened (lies opened ∷ []))
-      (p-word : Is (MutSlice (named 4) κ₄ u8) word (lies word ∷ [])) (p-levels : Is (MutSlice (named 5) κ₅ i8) levels (lies levels ∷ [])) where
+      (p-received : Is (ShrSlice (named 2) κ₂ u8) received (lies received ∷ [])) (p-opened : Is (ShrSlice (named 3) κ₃ i16) opened (lies opened ∷ []))
+      (p-word : Is (MutSlice (named 4) κ₄ u8) word (lies word ∷ [])) (p-levels : Is (MutSlice (named 5) κ₅ i16) levels (lies levels ∷ [])) where
     walk : ent 𝓤 (onEntry 𝓤 H A f.signature (κ₀, (κ₁, (κ₂, (κ₃, (κ₄, (κ₅, tt)))))) (q₀, (q₁, (q₂, (q₃, (q₄, (q₅, tt)))))) a vals)
         (WpFn 𝓤 H C Λ code.function (vptr b o ∷ other-args) Post)
     walk =
@@ -272,8 +272,8 @@ module _ {M : Type 1} (𝓤 : URA M) (H : Heap 𝓤) (A : Atoms 𝓤) (W : Given
             (
               shr-slice-tells (named 2) (κs .1 .1 .0) u8,
               (
-                shr-slice-tells (named 3) (κs .1 .1 .1 .0) i8,
-                (mut-slice-tells (named 4) (κs .1 .1 .1 .1 .0) u8, (mut-slice-tells (named 5) (κs .1 .1 .1 .1 .1 .0) i8, tt)),
+                shr-slice-tells (named 3) (κs .1 .1 .1 .0) i16,
+                (mut-slice-tells (named 4) (κs .1 .1 .1 .1 .0) u8, (mut-slice-tells (named 5) (κs .1 .1 .1 .1 .1 .0) i16, tt)),
               ),
             ),
           ),
@@ -295,8 +295,8 @@ module _ {M : Type 1} (𝓤 : URA M) (H : Heap 𝓤) (A : Atoms 𝓤) (W : Given
         (
           goes-dropped 𝓤 H A W 6 (shrSliceOf (2 ∷ []) tt (plain (λ _. u8))) yes (λ κs x f. refl),
           (
-            goes-dropped 𝓤 H A W 6 (shrSliceOf (3 ∷ []) tt (plain (λ _. i8))) yes (λ κs x f. refl),
-            (goes-gave-slice 𝓤 H A W 6 4 tt (plain (λ _. u8)), (goes-gave-slice 𝓤 H A W 6 5 tt (plain (λ _. i8)), tt)),
+            goes-dropped 𝓤 H A W 6 (shrSliceOf (3 ∷ []) tt (plain (λ _. i16))) yes (λ κs x f. refl),
+            (goes-gave-slice 𝓤 H A W 6 4 tt (plain (λ _. u8)), (goes-gave-slice 𝓤 H A W 6 5 tt (plain (λ _. i16)), tt)),
           ),
         ),
       ),

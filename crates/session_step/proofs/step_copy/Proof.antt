@@ -49,7 +49,7 @@ use denote.Triple.Call.{calls-at}
 use denote.Triple.Clauses.{ensured, lasts}
 use denote.Triple.Table.{entered, cited}
 use denote.Triple.Walked.{says, Stays, stay-dropped, gave-slice, walkOf, AllGo, goes-dropped, goes-gave-slice, Walks, ends-at, walked, walk-meets}
-use denote.Builtin.{i8, u16, u8}
+use denote.Builtin.{i16, u16, u8}
 use Rattle.session_record.specs.declared.Session.{Session}
 use Rattle.session_record.specs.declared.Turn.{Turn}
 use Rattle.session_record.proofs.Session as T
@@ -81,8 +81,8 @@ stayed = (
       (
         stay-dropped (shrSliceOf (1 ∷ []) tt (plain (λ _. u8))) yes,
         (
-          stay-dropped (shrSliceOf (2 ∷ []) tt (plain (λ _. i8))) yes,
-          (gave-slice (3 ∷ []) tt (plain (λ _. u8)), (gave-slice (4 ∷ []) tt (plain (λ _. i8)), tt)),
+          stay-dropped (shrSliceOf (2 ∷ []) tt (plain (λ _. i16))) yes,
+          (gave-slice (3 ∷ []) tt (plain (λ _. u8)), (gave-slice (4 ∷ []) tt (plain (λ _. i16)), tt)),
         ),
       ),
     ),
@@ -158,8 +158,8 @@ module _ {M : Type 1} (𝓤 : URA M) (H : Heap 𝓤) (A : Atoms 𝓤) (W : Given
 
   abbrev other-rows : List RattleType
   other-rows =
-      Shape-type.the-row ∷ ShrSlice (named 1) κ₀ u16 ∷ ShrSlice (named 2) κ₁ u8 ∷ ShrSlice (named 3) κ₂ i8 ∷ MutSlice (named 4) κ₃ u8 ∷
-      MutSlice (named 5) κ₄ i8 ∷ []
+      Shape-type.the-row ∷ ShrSlice (named 1) κ₀ u16 ∷ ShrSlice (named 2) κ₁ u8 ∷ ShrSlice (named 3) κ₂ i16 ∷ MutSlice (named 4) κ₃ u8 ∷
+      MutSlice (named 5) κ₄ i16 ∷ []
 
   abbrev Arg : Type 0
   Arg = Session × Others
@@ -196,9 +196,9 @@ module _ {M : Type 1} (𝓤 : URA M) (H : Heap 𝓤) (A : Atoms 𝓤) (W : Given
 
   exits : (t : Session) (z : Answer) (word-last : List ℕ) (levels-last : List ℤ) → Gives h shape list received opened word levels z t word-last levels-last
       → length word-last ≡ length (now word) → length levels-last ≡ length (now levels) → Is U.the-row (both t z) (machR (both t z) ∷ [])
-      → ent 𝓤 (⋆ 𝓤 H A (tokens ∷ ‵ (finally i8 (levels .name) levels-last) ∷ ‵ (finally u8 (word .name) word-last) ∷ [])) (Post (machR (both t z)))
+      → ent 𝓤 (⋆ 𝓤 H A (tokens ∷ ‵ (finally i16 (levels .name) levels-last) ∷ ‵ (finally u8 (word .name) word-last) ∷ [])) (Post (machR (both t z)))
   exits t z word-last levels-last e l-word l-levels isR =
-      qed W (tokens ∷ ‵ (finally i8 (levels .name) levels-last) ∷ ‵ (finally u8 (word .name) word-last) ∷ []) ∵
+      qed W (tokens ∷ ‵ (finally i16 (levels .name) levels-last) ∷ ‵ (finally u8 (word .name) word-last) ∷ []) ∵
       suffices ! _ (ends-at 𝓤 H A f.ended stayed (f.clauses 𝓤 H A at-mem run)
       W (((κ₀, (κ₁, (κ₂, (κ₃, (κ₄, tt))))), (q₀, (q₁, (q₂, (q₃, (q₄, tt))))), tt, a, vals), tt)
       (machR (both t z)) (both t z) (tt, (tt, (tt, (tt, (tt, (word-last, (levels-last, tt))))))) (tt, (tt, (tt, (tt, (tt, (l-word, (l-levels, tt)))))))) $
@@ -208,14 +208,14 @@ module _ {M : Type 1} (𝓤 : URA M) (H : Heap 𝓤) (A : Atoms 𝓤) (W : Given
 
   module _ (C : Calls 𝓤 H) (Λ : Loops 𝓤 H) (fm : FmC 𝓤 H (W .laws) C) (known : Triple 𝓤 (C #callee) (Callee 𝓤 H A at-mem run))
       (p-shape : Is Shape-type.the-row shape (mach-Shape shape ∷ [])) (p-list : Is (ShrSlice (named 0) κ₀ u16) list (lies list ∷ []))
-      (p-received : Is (ShrSlice (named 1) κ₁ u8) received (lies received ∷ [])) (p-opened : Is (ShrSlice (named 2) κ₂ i8) opened (lies opened ∷ []))
-      (p-word : Is (MutSlice (named 3) κ₃ u8) word (lies word ∷ [])) (p-levels : Is (MutSlice (named 4) κ₄ i8) levels (lies levels ∷ [])) where
+      (p-received : Is (ShrSlice (named 1) κ₁ u8) received (lies received ∷ [])) (p-opened : Is (ShrSlice (named 2) κ₂ i16) opened (lies opened ∷ []))
+      (p-word : Is (MutSlice (named 3) κ₃ u8) word (lies word ∷ [])) (p-levels : Is (MutSlice (named 4) κ₄ i16) levels (lies levels ∷ [])) where
     walk : Is T.the-row h (mach h ∷ [])
         → ent 𝓤 (onEntry 𝓤 H A f.signature (κ₀, (κ₁, (κ₂, (κ₃, (κ₄, tt))))) (q₀, (q₁, (q₂, (q₃, (q₄, tt))))) a vals)
         (WpFn 𝓤 H C Λ code.function (mach h ∷ other-args) Post)
     walk g =
-        qed W (tokens ∷ ‵ (owns (T.the-row ∷ Shape-type.the-row ∷ ShrSlice (named 0) κ₀ u16 ∷ ShrSlice (named 1) κ₁ u8 ∷ ShrSlice (named 2) κ₂ i8 ∷
-        MutSlice (named 3) κ₃ u8 ∷ MutSlice (named 4) κ₄ i8 ∷ []) a vals) ∷ []) ∵ enter ! C Λ code.function (mach h ∷ other-args) _ $
+        qed W (tokens ∷ ‵ (owns (T.the-row ∷ Shape-type.the-row ∷ ShrSlice (named 0) κ₀ u16 ∷ ShrSlice (named 1) κ₁ u8 ∷ ShrSlice (named 2) κ₂ i16 ∷
+        MutSlice (named 3) κ₃ u8 ∷ MutSlice (named 4) κ₄ i16 ∷ []) a vals) ∷ []) ∵ enter ! C Λ code.function (mach h ∷ other-args) _ $
         alloc1 ! (λ l0. alloc1 ! (λ l1. alloc1 ! (λ l2.
         alloc1 ! (λ l3. alloc1 ! (λ l4. alloc1 ! (λ l5.
         alloc1 ! (λ l6. alloc1 ! (λ l7. alloc1 ! (λ l8.
@@ -313,8 +313,8 @@ module _ {M : Type 1} (𝓤 : URA M) (H : Heap 𝓤) (A : Atoms 𝓤) (W : Given
             (
               shr-slice-tells (named 1) (κs .1 .0) u8,
               (
-                shr-slice-tells (named 2) (κs .1 .1 .0) i8,
-                (mut-slice-tells (named 3) (κs .1 .1 .1 .0) u8, (mut-slice-tells (named 4) (κs .1 .1 .1 .1 .0) i8, tt)),
+                shr-slice-tells (named 2) (κs .1 .1 .0) i16,
+                (mut-slice-tells (named 3) (κs .1 .1 .1 .0) u8, (mut-slice-tells (named 4) (κs .1 .1 .1 .1 .0) i16, tt)),
               ),
             ),
           ),
@@ -335,8 +335,8 @@ module _ {M : Type 1} (𝓤 : URA M) (H : Heap 𝓤) (A : Atoms 𝓤) (W : Given
         (
           goes-dropped 𝓤 H A W 5 (shrSliceOf (1 ∷ []) tt (plain (λ _. u8))) yes (λ κs x f. refl),
           (
-            goes-dropped 𝓤 H A W 5 (shrSliceOf (2 ∷ []) tt (plain (λ _. i8))) yes (λ κs x f. refl),
-            (goes-gave-slice 𝓤 H A W 5 3 tt (plain (λ _. u8)), (goes-gave-slice 𝓤 H A W 5 4 tt (plain (λ _. i8)), tt)),
+            goes-dropped 𝓤 H A W 5 (shrSliceOf (2 ∷ []) tt (plain (λ _. i16))) yes (λ κs x f. refl),
+            (goes-gave-slice 𝓤 H A W 5 3 tt (plain (λ _. u8)), (goes-gave-slice 𝓤 H A W 5 4 tt (plain (λ _. i16)), tt)),
           ),
         ),
       ),

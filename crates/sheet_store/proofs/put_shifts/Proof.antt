@@ -8,8 +8,8 @@ use lib.Seq.{sets, length-sets}
 use Rattle.counting.specs.Paper.Joined.{joined}
 use Rattle.matrix.specs.Paper.Code.{Matrix}
 use Rattle.matrix.specs.Paper.Shapes.{matrixOf}
+use Rattle.byte_numbers.proofs.Joining.{sets-none}
 use Rattle.sheet_store.specs.Storing.{rowShifts}
-use Rattle.sheet_store.proofs.Joining.{sets-none}
 use Rattle.sheet_store.proofs.Shifts.{row-next, row-room}
 use Rattle.sheet_store.proofs.put_shifts.Statement.{statement}
 use Rattle.sheet_store.proofs.put_shifts.Tie as tie

@@ -6,12 +6,14 @@
 --   bounds         == each call with what it is to yield
 --   all-bounds     == the definitions yield each row
 --   bound-rounds   == the rounds of the rule for codes A and C, b = 3 and one wrong bit; and for the README's block
+--   FineLimits gamma w           == for how many wrong bits the largest limit, 255, leaves the rounds at b = 9 to 12
 --   readmeSetting, readmeBlock   == b = 8, level step 0.1; the samples 10 and six of -1
 --   readmeCall limit             == the whole call on it, code A, the buffers just long enough
 --   ReadmeBlock limit            == with this limit the zero word is recovered from it
--- proofs/Instances.antt proves the last for a limit of 43, by the rule: as many rounds are too many to be worked out.
+-- proofs/Limits.antt proves `FineLimits` of every number of wrong bits up to half of gamma. proofs/Instances.antt proves the last for a limit of
+-- 43, by the rule: as many rounds are too many to be worked out.
 -- Bytes and floats are written by their bits. Assumes nothing.
-use Prim.Native.Nat.{ℕ}
+use Prim.Native.Nat.{ℕ, _+_, _*_, _≤_}
 use mathlib.Core.Path.{_≡_, refl}
 use mathlib.Core.List.{List, [], _∷_}
 use lib.IntN.{pos, negsuc}
@@ -24,7 +26,7 @@ use Rattle.answers.specs.Paper.Answers.{report}
 use Rattle.packed_word.specs.Paper.Packed.{bitAt, packedByte, pack, spareSet, distance}
 use Rattle.matrix.specs.Paper.Code.{Matrix, matrix, entry, has, weight, common, fails, failing}
 use Rattle.matrix.specs.Paper.Check.{sizesFit, badEntry, badWeight, noLeast, overlapping, listOf, checkOf}
-use Rattle.quantiser_levels.specs.Paper.Samples.{Setting, stepFits, settingFits, nearestWhole, magnitude, levelOf, hardOf, hardBit, notFinite}
+use Rattle.quantiser_levels.specs.Paper.Samples.{Setting, stepFits, settingFits, largest, nearestWhole, magnitude, levelOf, hardOf, hardBit, notFinite}
 use Rattle.iterative_rounds.specs.Paper.Rounds.{others, extrinsic, levelAfter, roundOf, endOf}
 use Rattle.iterative_changed.specs.Paper.Changed.{decided, changed}
 use Rattle.iterative_core.specs.Paper.Iterative.{startOf, endFrom, reportAt, samplesVerdict, iterativeVerdict, iterativeOf}
@@ -79,6 +81,17 @@ all-bounds = refl
 -- L / delta + 1: with L = 3 delta is 3 for A and 2 for C; with L = 127 it is 3 for A
 pub bound-rounds : (roundsFor 3 3 1 ≡ 2) × (roundsFor 3 2 1 ≡ 2) × (roundsFor 127 3 1 ≡ 43)
 bound-rounds = (refl, refl, refl)
+
+-- document 02, card 7, with document 01's limits: 255 rounds suffice for w wrong bits at b = 9 always, at b = 10, 11 and 12 exactly where gamma is
+-- at least 2 w + 1, 2 w + 3 and 2 w + 7
+pub record FineLimits (gamma w : ℕ) : Type 0 where
+  pub nine : roundsFor (largest 9) gamma w ≤ 255
+  pub ten : 2 * w + 1 ≤ gamma → roundsFor (largest 10) gamma w ≤ 255
+  pub ten-only : roundsFor (largest 10) gamma w ≤ 255 → 2 * w + 1 ≤ gamma
+  pub eleven : 2 * w + 3 ≤ gamma → roundsFor (largest 11) gamma w ≤ 255
+  pub eleven-only : roundsFor (largest 11) gamma w ≤ 255 → 2 * w + 3 ≤ gamma
+  pub twelve : 2 * w + 7 ≤ gamma → roundsFor (largest 12) gamma w ≤ 255
+  pub twelve-only : roundsFor (largest 12) gamma w ≤ 255 → 2 * w + 7 ≤ gamma
 
 unfoldable pub readmeSetting : ℕ → Setting
 readmeSetting limit = record { bits = 8; limit = limit; kind = 0; step = ofBits binary32 0x3dcc_cccd }

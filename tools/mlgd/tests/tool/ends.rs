@@ -27,7 +27,8 @@ fn statuses() {
     let ran = decoded.decode(&program, limit_0, &[]);
     assert_eq!(ran.status, 1);
     let row = decoded.read("r").lines().nth(1).unwrap().to_string();
-    let reason = "3 checks still fail after 0 rounds: try a limit of 64 before you send it again";
+    let reason = "a bit was wrong: 3 checks still fail after 0 rounds: \
+                  try limit 43 before you send it again";
     assert_eq!(row, format!("1,0,failed,0,3,0,0,no,{reason},x80"));
     let fault = folder("status-2", "six\n");
     assert_eq!(fault.decode(&program, SETTING, &[]).status, 2);
@@ -55,7 +56,7 @@ fn beyond_the_half() {
         assert_eq!(ran.status, status, "{ran:?}");
         assert!(ran.said.starts_with(said), "{}", ran.said);
         let row = folder.read("r").lines().nth(1).unwrap().to_string();
-        let reason = "\"wrong_bits is 7, more than the 1 that is proved to be undone: ";
+        let reason = "\"wrong_bits is 7, more than t = 1 (half of gamma): ";
         let begin = format!("1,0,decoded,1,0,0,7,no,{reason}");
         assert!(row.starts_with(&begin), "{row}");
         assert!(row.ends_with(",x00"), "{row}");
@@ -331,7 +332,7 @@ fn one_step() {
         [
             "1,0,decoded,0,0,0,0,yes,,x2e",
             "2,1,decoded,1,0,1,1,yes,,x2e",
-            "3,2,decoded,1,0,6,6,no,\"wrong_bits is 6, more than the 1 that is proved to be undone: \
+            "3,2,decoded,1,0,6,6,no,\"wrong_bits is 6, more than t = 1 (half of gamma): \
              nothing proves this codeword to be the one sent, compare it with another reception \
              or send the block again\",x2e",
             "4,3,refused,,,,,no,the last place of the last byte is not 0: write the word's spare bits as 0,",

@@ -132,7 +132,7 @@ fn every_code_against_the_reference() {
     let mut all = [codes::small(), codes::medium()].concat();
     all.extend([codes::qc961(), codes::cycle(1023)]);
     for (at, code) in all.iter().enumerate() {
-        let (bits, kind) = (2 + (at % 7) as u16, (at / 7 % 2) as u16);
+        let (bits, kind) = (2 + (at % 11) as u16, (at / 11 % 2) as u16);
         let limit = *random.pick(&[0, 1, 2, 5, 30, 64, 255]);
         let setting = settings::around_one(bits, limit, kind, &mut random);
         let blocks = inputs::blocks(code, 6, 1.0, &mut random);
@@ -196,6 +196,36 @@ fn strong_wrong_samples_within_the_half() {
     }
 }
 
+/// A wrong sample ten times as strong as the others, of which each round takes 3: with 12 bits no limit
+/// is enough, and the table says with which bits one is.
+#[test]
+fn finer_levels_than_the_limit_allows() {
+    let Some(program) = program() else { return };
+    let folder = Folder::new("finer");
+    folder.write("h", alist::text(&codes::code_a()));
+    folder.write("y", "10;-1;-1;-1;-1;-1;-1\n");
+    let ran = folder.decode(&program, "bits 12 limit 255 level-step 0.005", &[]);
+    assert_eq!(ran.status, 1);
+    let promised = "limit 255 does not carry the promise: bits 10 limit 171 does\n";
+    assert!(ran.said.ends_with(promised), "{}", ran.said);
+    let row = &rows(&folder, "r")[0];
+    let counts = row.counts.as_ref().unwrap();
+    assert_eq!((counts.rounds, counts.failing), (255, 3));
+    assert_eq!(
+        row.reason,
+        "a bit was wrong: 3 checks still fail after 255 rounds: \
+         try bits 10 limit 171 before you send it again"
+    );
+    for (bits, limit, rounds) in [(9, 86, 85), (10, 171, 171), (12, 255, 34)] {
+        let step = if bits == 12 { 0.1 } else { 0.005 };
+        let setting = format!("bits {bits} limit {limit} level-step {step}");
+        assert_eq!(folder.decode(&program, &setting, &[]).status, 0);
+        let row = &rows(&folder, "r")[0];
+        assert_eq!(row.counts.as_ref().unwrap().rounds, rounds, "{setting}");
+        assert!(row.within_half && row.reason.is_empty());
+    }
+}
+
 /// What the summary says of limits and of level 0.
 #[test]
 fn the_summary() {
@@ -211,8 +241,14 @@ fn the_summary() {
         ran.said,
         "2 blocks: 2 decoded within the half, 0 decoded beyond the half, 0 failed, 0 refused\n\
          n 9, m 6, rho 3, gamma 2, t 1, blocks 2, samples at level 0: 1; limit 30 does not carry \
-         the promise: limit 64 (L / 2 + 1) does; gamma is even: it holds for t - 1 in the blocks \
-         with a sample above 0 at level 0, which are 1\n"
+         the promise: limit 64 does\n"
+    );
+    let ran = folder.decode(&program, SETTING, &[]);
+    let (_, limit) = ran.said.split_once("level 0: 1; ").expect("the limit");
+    assert_eq!(
+        limit,
+        "limit 64 carries the promise (it is at least 64); gamma is even: it holds for t - 1 in the \
+         blocks with a sample above 0 at level 0, which are 1\n"
     );
 }
 
@@ -246,7 +282,7 @@ fn a_table_that_was_saved_again() {
 #[test]
 fn a_saved_table_with_commas() {
     let folder = Folder::new("saved-commas");
-    let reason = "wrong_bits is 2, more than the 1 that is proved to be undone";
+    let reason = "wrong_bits is 2, more than t = 1 (half of gamma)";
     for separator in [";", "\t"] {
         let row = ["5", "0", "decoded", "1", "0", "2", "2", "no", reason, "x2e"];
         let (header, row) = (COLUMNS.replace(',', separator), row.join(separator));

@@ -1,0 +1,2 @@
+-- What the contracts of `quantiser_widths` cite.
+pub mod Paper
