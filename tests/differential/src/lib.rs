@@ -17,6 +17,8 @@ mod session;
 #[cfg(feature = "sheet")]
 mod sheets;
 mod subject;
+#[cfg(all(feature = "firmware", feature = "index"))]
+mod tried;
 #[cfg(feature = "samples")]
 mod widths;
 
@@ -30,6 +32,8 @@ pub use session::{levels_by_chance, Lent, Opened, WORKING};
 #[cfg(feature = "sheet")]
 pub use sheets::{sheet_refusal, store_refusal, LentSheet, Sheeted};
 pub use subject::{refusal, Subject};
+#[cfg(all(feature = "firmware", feature = "index"))]
+pub use tried::Tried;
 #[cfg(feature = "samples")]
 pub use widths::{narrow, widen};
 

@@ -4,11 +4,11 @@ use differential::firmware::{self, Block, Firmware, REPORT};
 use differential::rule::{sample, with_limit};
 use differential::{
     cases, levels_by_chance, narrow, quantise_exactly, random, widen, Indexed, Lent, Opened,
-    Subject, WORKING,
+    Subject, Tried, WORKING,
 };
 use ffi_face::Packed;
-use generator::codes::{self, Code};
-use generator::{noise, patterns, settings, unlike, Codewords, Random};
+use generator::codes;
+use generator::{noise, patterns, settings, unlike, Random};
 use reference::{largest_level, pack, Setting};
 
 /// Every width and its L, as the papers have it.
@@ -33,79 +33,57 @@ fn refused(number: u64, place: u64) -> Packed {
     Packed::new(number * 65536 + place, 0, 0, 0)
 }
 
-/// A code in every call that has levels.
-struct Tried {
-    code: Code,
-    codewords: Codewords,
-    indexed: Indexed,
-    firmware: Firmware,
+/// A block through every call: whole, with an index, for the firmware, and stepped. All say and
+/// write the same. Gives the answer and the levels.
+fn block(
+    tried: &Tried,
+    setting: &Setting,
+    samples: &[f32],
+    random: &mut Random,
+) -> (Packed, Vec<i16>) {
+    let (n, needed) = (tried.n(), tried.subject().needed());
+    let left = tried
+        .subject()
+        .iterative(setting, samples, needed, n, random);
+    let indexed = tried.indexed.block(setting, samples, random);
+    assert_eq!(indexed.answer, left.answer);
+    let block = Block::new(setting, samples).longer(random);
+    let written = tried.firmware.decode(&block, random);
+    assert_eq!(u64::from(written.returned), left.answer.0 % (1 << 32));
+    if left.answer.refusal() == 0 {
+        assert_eq!(indexed.levels[..n], left.levels);
+        assert_eq!(written.signed()[..n], left.levels);
+        tried.subject().stepped(setting, samples, random);
+    }
+    (left.answer, left.levels)
 }
 
-impl Tried {
-    fn new(code: Code, random: &mut Random) -> Tried {
-        Tried {
-            codewords: Codewords::of(&code.matrix),
-            indexed: Indexed::new(&code.matrix, random),
-            firmware: Firmware::new(&code.matrix, random),
-            code,
-        }
-    }
+/// A codeword with one wrong place, whose level is twice its column's ones and one: all of its checks
+/// fail, so that two rounds leave level 1 and the third turns it.
+fn three_rounds(tried: &Tried, setting: &Setting, random: &mut Random) -> Vec<f32> {
+    let sent = tried.codewords.random(random);
+    let wrong = random.below(tried.n());
+    let ones = tried.code.columns()[wrong].len();
+    let magnitude = |j: usize| if j == wrong { 2 * ones + 1 } else { 20 };
+    patterns::flipped(&sent, &[wrong])
+        .into_iter()
+        .enumerate()
+        .map(|(j, bit)| sample(setting, bit, magnitude(j) as i32, random))
+        .collect()
+}
 
-    fn n(&self) -> usize {
-        self.indexed.n()
-    }
-
-    fn subject(&self) -> &Subject {
-        self.indexed.subject()
-    }
-
-    /// A block through every call: whole, with an index, for the firmware, and stepped. All say and
-    /// write the same. Gives the answer and the levels.
-    fn block(&self, setting: &Setting, samples: &[f32], random: &mut Random) -> (Packed, Vec<i16>) {
-        let (n, needed) = (self.n(), self.subject().needed());
-        let left = self
-            .subject()
-            .iterative(setting, samples, needed, n, random);
-        let indexed = self.indexed.block(setting, samples, random);
-        assert_eq!(indexed.answer, left.answer);
-        let block = Block::new(setting, samples).longer(random);
-        let written = self.firmware.decode(&block, random);
-        assert_eq!(u64::from(written.returned), left.answer.0 % (1 << 32));
-        if left.answer.refusal() == 0 {
-            assert_eq!(indexed.levels[..n], left.levels);
-            assert_eq!(written.signed()[..n], left.levels);
-            self.subject().stepped(setting, samples, random);
-        }
-        (left.answer, left.levels)
-    }
-
-    /// A codeword with one wrong place, whose level is twice its column's ones and one: all of its checks
-    /// fail, so that two rounds leave level 1 and the third turns it.
-    fn three_rounds(&self, setting: &Setting, random: &mut Random) -> Vec<f32> {
-        let sent = self.codewords.random(random);
-        let wrong = random.below(self.n());
-        let ones = self.code.columns()[wrong].len();
-        let magnitude = |j: usize| if j == wrong { 2 * ones + 1 } else { 20 };
-        patterns::flipped(&sent, &[wrong])
-            .into_iter()
-            .enumerate()
-            .map(|(j, bit)| sample(setting, bit, magnitude(j) as i32, random))
-            .collect()
-    }
-
-    /// A codeword with noise, its strongest samples at about this level.
-    fn received(&self, setting: &Setting, strongest: f32, random: &mut Random) -> Vec<f32> {
-        let deviation = *random.pick(&[0.3, 0.5, 0.7, 1.0, 3.0]);
-        let sent = self.codewords.random(random);
-        let unit = match setting.kind {
-            0 => setting.step,
-            _ => setting.step / largest_level(setting.bits) as f32,
-        };
-        noise::received(&sent, deviation, random)
-            .into_iter()
-            .map(|sample| sample * strongest * unit)
-            .collect()
-    }
+/// A codeword with noise, its strongest samples at about this level.
+fn received(tried: &Tried, setting: &Setting, strongest: f32, random: &mut Random) -> Vec<f32> {
+    let deviation = *random.pick(&[0.3, 0.5, 0.7, 1.0, 3.0]);
+    let sent = tried.codewords.random(random);
+    let unit = match setting.kind {
+        0 => setting.step,
+        _ => setting.step / largest_level(setting.bits) as f32,
+    };
+    noise::received(&sent, deviation, random)
+        .into_iter()
+        .map(|sample| sample * strongest * unit)
+        .collect()
 }
 
 /// Which b is accepted, in each call: from 2 to 12.
@@ -127,7 +105,7 @@ fn widths_of_every_call() {
             let expected = if (2..=12).contains(&bits) { 0 } else { 6 };
             let quantised = quantise_exactly(&setting, &samples, &mut random);
             assert_eq!(quantised.answer.refusal(), expected, "{bits}");
-            let (answer, _) = tried.block(&setting, &samples, &mut random);
+            let (answer, _) = block(&tried, &setting, &samples, &mut random);
             assert_eq!(answer.refusal(), expected, "{bits}");
             let mut lent = Lent::by_chance(tried.subject(), &mut random);
             let opened = tried
@@ -218,7 +196,7 @@ fn p6_with_fine_levels() {
     let by_step = settings::level_step(12, 171, 2.0_f32.powi(-10));
     let by_scale = settings::full_scale(12, 171, 2047.0 / 1024.0);
     for setting in [by_step, by_scale] {
-        let (answer, levels) = tried.block(&setting, &samples, &mut random);
+        let (answer, levels) = block(&tried, &setting, &samples, &mut random);
         assert_eq!(answer, Packed::new(0, 171, 0, 1));
         let low = -1024 - 171;
         assert_eq!(levels, [-1, low, low, low, low, low, low]);
@@ -226,7 +204,7 @@ fn p6_with_fine_levels() {
             limit: 170,
             ..setting
         };
-        let (answer, levels) = tried.block(&one_less, &samples, &mut random);
+        let (answer, levels) = block(&tried, &one_less, &samples, &mut random);
         assert_eq!(answer, Packed::new(1, 170, 3, 0));
         assert_eq!(levels[..2], [2, -1024 - 170]);
     }
@@ -241,12 +219,12 @@ fn sums_are_cut_at_both_ends() {
     for (bits, l) in WIDTHS.into_iter().skip(2) {
         let setting = settings::level_step(bits, 1, 0.5);
         let samples = [1e9, -1e9, -1e9, -1e9, -1e9, -1e9, -1e9];
-        let (answer, levels) = tried.block(&setting, &samples, &mut random);
+        let (answer, levels) = block(&tried, &setting, &samples, &mut random);
         assert_eq!(answer, Packed::new(1, 1, 3, 0), "{bits}");
         assert_eq!(levels, [l - 3, -l, -l, -l, -l, -l, -l]);
         // 2E is bits 2, 4, 5 and 6; bit 0 is wrong.
         let samples = [1e9, -1e9, 1e9, -1e9, 1e9, 1e9, 1e9];
-        let (answer, levels) = tried.block(&setting, &samples, &mut random);
+        let (answer, levels) = block(&tried, &setting, &samples, &mut random);
         assert_eq!(answer, Packed::new(1, 1, 3, 0), "{bits}");
         assert_eq!(levels, [l - 3, -l, l, -l, l, l, l]);
     }
@@ -295,8 +273,8 @@ fn lengths_of_the_level_bytes() {
         for (bits, _) in WIDTHS {
             for kind in [0, 1] {
                 let setting = settings::around_one(bits, 2, kind, &mut random);
-                let samples = tried.received(&setting, 9.0, &mut random);
-                let (_, levels) = tried.block(&setting, &samples, &mut random);
+                let samples = received(&tried, &setting, 9.0, &mut random);
+                let (_, levels) = block(&tried, &setting, &samples, &mut random);
                 let bytes: Vec<u8> = levels
                     .iter()
                     .flat_map(|level| level.to_le_bytes())
@@ -350,8 +328,8 @@ fn compare(tried: &Tried, limits: &[u16], times: usize, seen: &mut Seen, random:
                     ..settings::level_step(bits, *random.pick(limits), settings::some_step(random))
                 };
                 let strongest = *random.pick(&[1.5, 4.0, 20.0, 200.0, largest.into()]);
-                let samples = tried.received(&setting, strongest, random);
-                let (answer, levels) = tried.block(&setting, &samples, random);
+                let samples = received(&tried, &setting, strongest, random);
+                let (answer, levels) = block(&tried, &setting, &samples, random);
                 assert_eq!(answer.refusal(), 0, "{}", tried.code.name);
                 seen.count(answer, &levels);
             }
@@ -401,13 +379,13 @@ fn large_codes() {
         for bits in [9, 12] {
             let limit = *random.pick(&[2, 5, 8]);
             let setting = settings::level_step(bits, limit, 0.01);
-            let samples = tried.received(&setting, 20.0, &mut random);
-            let (answer, _) = tried.block(&setting, &samples, &mut random);
+            let samples = received(&tried, &setting, 20.0, &mut random);
+            let (answer, _) = block(&tried, &setting, &samples, &mut random);
             assert_eq!(answer.refusal(), 0, "{}", tried.code.name);
-            let samples = tried.three_rounds(&setting, &mut random);
+            let samples = three_rounds(&tried, &setting, &mut random);
             for limit in [2, 3] {
                 let setting = with_limit(&setting, limit);
-                let (answer, levels) = tried.block(&setting, &samples, &mut random);
+                let (answer, levels) = block(&tried, &setting, &samples, &mut random);
                 seen.count(answer, &levels);
             }
         }
@@ -594,7 +572,7 @@ fn sessions_go_on_with_levels_brought_over() {
         for (bits, largest) in WIDTHS {
             let setting = settings::around_one(bits, 6, 0, &mut random);
             let strongest = *random.pick(&[2.0, f32::from(largest)]);
-            let samples = tried.received(&setting, strongest, &mut random);
+            let samples = received(&tried, &setting, strongest, &mut random);
             let whole = subject.iterative(&setting, &samples, subject.needed(), n, &mut random);
             let mut lent = Lent::by_chance(subject, &mut random);
             let mut answer = subject.open(&mut lent, &setting, &samples, &mut random);

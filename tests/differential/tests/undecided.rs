@@ -2,21 +2,13 @@
 //! places with a level at opening whose bit ends different; steps count by the levels that they are
 //! lent as the opening's.
 
-use differential::firmware::{Block, Firmware};
+use differential::firmware::Block;
 use differential::rule::sample;
-use differential::{cases, levels_by_chance, random, Indexed, Lent, Opened, Subject, WORKING};
+use differential::{cases, levels_by_chance, random, Lent, Opened, Subject, Tried, WORKING};
 use ffi_face::Packed;
-use generator::codes::{self, Code};
-use generator::{patterns, settings, unlike, Codewords, Random};
+use generator::codes;
+use generator::{patterns, settings, unlike, Random};
 use reference::{hard_bit, largest_level, level, pack, unpack, Setting};
-
-/// A code in every call that is lent samples.
-struct Tried {
-    code: Code,
-    codewords: Codewords,
-    indexed: Indexed,
-    firmware: Firmware,
-}
 
 /// What a block ends with: changed as it is answered, and at how many of all places the word differs
 /// from the hard bits.
@@ -26,53 +18,34 @@ struct Counts {
     all: usize,
 }
 
-impl Tried {
-    fn new(code: Code, random: &mut Random) -> Tried {
-        Tried {
-            codewords: Codewords::of(&code.matrix),
-            indexed: Indexed::new(&code.matrix, random),
-            firmware: Firmware::new(&code.matrix, random),
-            code,
-        }
-    }
+/// A block through every call: whole, with an index, for the firmware, and stepped. All say the
+/// same, and the counts are those of the places one by one.
+fn counts(tried: &Tried, setting: &Setting, samples: &[f32], random: &mut Random) -> Counts {
+    let (subject, needed) = (tried.subject(), tried.subject().needed());
+    let left = subject.block(setting, samples, random);
+    let changed = left.answer.changed();
+    let answer = tried.indexed.block(setting, samples, random).answer;
+    assert_eq!(answer, left.answer);
+    let block = Block::new(setting, samples).longer(random);
+    let [.., in_report] = tried.firmware.decode(&block, random).counts();
+    assert_eq!(in_report, changed);
+    subject.stepped(setting, samples, random);
 
-    fn n(&self) -> usize {
-        self.indexed.n()
-    }
-
-    fn subject(&self) -> &Subject {
-        self.indexed.subject()
-    }
-
-    /// A block through every call: whole, with an index, for the firmware, and stepped. All say the
-    /// same, and the counts are those of the places one by one.
-    fn counts(&self, setting: &Setting, samples: &[f32], random: &mut Random) -> Counts {
-        let (subject, needed) = (self.subject(), self.subject().needed());
-        let left = subject.block(setting, samples, random);
-        let changed = left.answer.changed();
-        let answer = self.indexed.block(setting, samples, random).answer;
-        assert_eq!(answer, left.answer);
-        let block = Block::new(setting, samples).longer(random);
-        let [.., in_report] = self.firmware.decode(&block, random).counts();
-        assert_eq!(in_report, changed);
-        subject.stepped(setting, samples, random);
-
-        let hard: Vec<bool> = samples.iter().map(|&sample| hard_bit(sample)).collect();
-        let word = unpack(subject.matrix().n, &left.word[..needed]);
-        let turned = |j: &usize| word[*j] != hard[*j];
-        let decided = |j: &usize| level(setting, samples[*j]) != 0;
-        let places = || (0..self.n()).filter(turned);
-        assert_eq!(changed, places().filter(decided).count());
-        // The count of changed bits in two words, and one-step voting on a word, count all places.
-        let all = ffi_face::changed(&left.word[..needed], &pack(&hard)).changed();
-        assert_eq!(all, places().count());
-        let (voted, word) = subject.one_step(&pack(&hard), needed, random);
-        assert_eq!(
-            voted.changed(),
-            ffi_face::changed(&word, &pack(&hard)).changed()
-        );
-        Counts { changed, all }
-    }
+    let hard: Vec<bool> = samples.iter().map(|&sample| hard_bit(sample)).collect();
+    let word = unpack(subject.matrix().n, &left.word[..needed]);
+    let turned = |j: &usize| word[*j] != hard[*j];
+    let decided = |j: &usize| level(setting, samples[*j]) != 0;
+    let places = || (0..tried.n()).filter(turned);
+    assert_eq!(changed, places().filter(decided).count());
+    // The count of changed bits in two words, and one-step voting on a word, count all places.
+    let all = ffi_face::changed(&left.word[..needed], &pack(&hard)).changed();
+    assert_eq!(all, places().count());
+    let (voted, word) = subject.one_step(&pack(&hard), needed, random);
+    assert_eq!(
+        voted.changed(),
+        ffi_face::changed(&word, &pack(&hard)).changed()
+    );
+    Counts { changed, all }
 }
 
 /// Which samples of a block have a level.
@@ -148,7 +121,7 @@ fn compare(tried: &Tried, limits: &[u16], times: usize, seen: &mut Seen, random:
         for _ in 0..times {
             let setting = some_setting(limits, random);
             let samples = some_block(tried, with, &setting, random);
-            let counts = tried.counts(&setting, &samples, random);
+            let counts = counts(&tried, &setting, &samples, random);
             let Counts { changed, all } = counts;
             match with {
                 With::None => assert_eq!(changed, 0, "{}", tried.code.name),
@@ -222,7 +195,7 @@ fn by_hand() {
             (&left.word[..], &left.levels[..]),
             (&[word][..], &levels[..])
         );
-        let counts = tried.counts(&p6, &samples, &mut random);
+        let counts = counts(&tried, &p6, &samples, &mut random);
         assert_eq!(counts, Counts { changed, all });
     };
     // P8, and with seven samples of the other sign.
