@@ -32,13 +32,14 @@ test: tools python c
 	tools/gate
 
 # The firmware's archive; two more, which nobody but the benchmark links: the core of one-step voting and the replay of a lent index, and,
-# in C, the plain replay that the library's is measured against.
+# in C, the plain replay that the library's is measured against. Then a program in C, which stands beside the benchmark's own in Rust.
 bench: tools c staticlib decode
 	rt staticlib firmware
 	rt staticlib ffi_bench
 	cc -O2 -c bench/c/replay.c -o target/staticlib/replay.o
 	ar rcs target/staticlib/libplain_replay.a target/staticlib/replay.o
 	cargo build --release --quiet -p bench --features measure
+	cc -O3 bench/c/accumulate.c -o build/release/bench_accumulate_c
 	build/release/bench
 
 # The differential tests with N times as many random inputs.

@@ -43,7 +43,7 @@ extern "C" {
  * its arrays on the stack and needs no other memory, so the thread that calls must have this much
  * left. It does not ask how much is left.
  *
- * Measured: 157,208 bytes at its deepest, for a small matrix as for the largest: 65,472 for the
+ * Measured: 157,240 bytes at its deepest, for a small matrix as for the largest: 65,472 for the
  * list, 67,520 for the matrix's index, 4,092 for the samples and about 20 KB for all else. (The
  * matrix check's 43,006 lie in the index's place, as it is done before the index is built.)
  *

@@ -1,8 +1,8 @@
 //! The firmware's face, iterative voting over bytes, against the same call over numbers.
 
 use crate::indexed::{best_times, received_blocks, through_all};
-use crate::programs::cases;
 use crate::WORDS;
+use bench::cases::cases;
 use ffi_face::Packed;
 use generator::codes::Code;
 use generator::settings;

@@ -1,8 +1,8 @@
 //! Voting that is lent an index against the same voting without one; and what the library takes to
 //! verify a lent index and to build one, against plain C and plain Rust.
 
-use crate::programs::cases;
 use crate::{received_words, Form, LITERAL_TURNS, WORDS};
+use bench::cases::cases;
 use bench::index;
 use ffi_face::{LentMatrix, Packed};
 use generator::codes::Code;

@@ -1,15 +1,18 @@
 //! The library's times as ratios to a hand-optimised form in Rust, and the literal form's.
 //!
 //! CPU time of one call, the forms taking turns in the same run, the best of many turns: 300, or as
-//! many as the argument says, and a fifth of that for the programs, whose times are in the last two
-//! tables. Above each table stands what was done.
+//! many as the argument says, and a fifth of that for the programs, whose times are in the last five
+//! tables. Above each table stands what was done. `bench sizes` has the last two tables alone, and
+//! their picture.
 
 mod changed;
 mod face;
 mod indexed;
 mod programs;
 mod sheets;
+mod sizes;
 
+use bench::cases::cases;
 use bench::clock::cpu_microseconds;
 use bench::optimised;
 use ffi_face::{LentMatrix, Packed};
@@ -207,9 +210,16 @@ fn measure_one_step(code: &Code, turns: usize) {
 const PROGRAM_SHARE: usize = 5;
 
 fn main() {
-    let turns = std::env::args().nth(1).map_or(300, |turns| {
+    let mut arguments = std::env::args().skip(1).peekable();
+    let sizes_alone = arguments.next_if_eq("sizes").is_some();
+    let turns: usize = arguments.next().map_or(300, |turns| {
         turns.parse().expect("the number of turns is a number")
     });
+    let program_turns = turns.div_ceil(PROGRAM_SHARE);
+    if sizes_alone {
+        sizes::measure(program_turns, Some("docs/cost.svg"));
+        return;
+    }
     println!(
         "Matrix check and one-step voting, CPU time of a call. Library and optimised form take turns, \
          and the best of {turns} turns of each counts; a turn is the mean of one call (one-step \
@@ -221,7 +231,7 @@ fn main() {
     println!();
     println!("| code | part | library / optimised | literal / optimised | library µs | optimised µs | literal µs |");
     println!("|---|---|---|---|---|---|---|");
-    for (code, _, _) in programs::cases() {
+    for (code, _, _) in cases() {
         measure_check(&code, turns);
         measure_one_step(&code, turns);
     }
@@ -229,6 +239,8 @@ fn main() {
     face::measure(turns);
     changed::measure(turns);
     sheets::measure(turns);
-    programs::measure(turns.div_ceil(PROGRAM_SHARE));
-    programs::measure_widths(turns.div_ceil(PROGRAM_SHARE));
+    programs::measure(program_turns);
+    programs::measure_widths(program_turns);
+    println!();
+    sizes::measure(program_turns, None);
 }

@@ -1,14 +1,15 @@
-//! The program on no block, on 200 and on 4,000, against hand-optimised ones and the literal one in
-//! Rust; and with levels of 12 bits against levels of 8.
+//! The program on no block, on 200 and on 4,000, against hand-optimised ones in Rust, a plain one each
+//! in C and in Rust and the literal one; and with levels of 12 bits against levels of 8.
 //!
 //! CPU time of the child, user's and system's, with its start; the programs take turns, and the
 //! best of many runs counts. DECODE names another program than target/bin/decode, from the
 //! workspace's root on.
 
+use bench::cases::{cases, input, Case};
 use bench::clock::children_microseconds;
-use generator::codes::{self, Code};
-use generator::{noise, settings, stream, unlike, Codewords, Random};
+use generator::codes::Code;
 use std::fs::{self, File};
+use std::io::Write;
 use std::path::{Path, PathBuf};
 use std::process::{Command, Stdio};
 
@@ -19,38 +20,30 @@ const MOST: usize = 4000;
 const LITERAL_BLOCKS: usize = 5;
 const LITERAL_RUNS: usize = 8;
 
-/// A code with the step and the noise at which about five rounds are needed.
-pub fn cases() -> [(Code, f32, f64); 4] {
-    [
-        (codes::eg1023(), 0.015, 0.51),
-        (codes::qc961(), 0.025, 0.535),
-        (codes::tanner155(), 0.1, 0.585),
-        (unlike::irregular1000(), 0.1, 0.54),
-    ]
-}
-
-/// The input of so many blocks, limit 30.
-fn input(code: &Code, bits: u16, step: f32, deviation: f64, count: usize) -> Vec<u8> {
-    let mut random = Random::new(1);
-    let codewords = Codewords::of(&code.matrix);
-    let blocks: Vec<Vec<f32>> = (0..count)
-        .map(|_| {
-            let sent = codewords.random(&mut random);
-            noise::received(&sent, deviation, &mut random)
-        })
-        .collect();
-    stream::input(&code.matrix, &settings::level_step(bits, 30, step), &blocks)
-}
-
 /// A file that is removed at the end.
-struct Stored(PathBuf);
+pub struct Stored(PathBuf);
 
 impl Stored {
-    fn new(name: &str, contents: &[u8]) -> Stored {
+    pub fn new(name: &str, contents: &[u8]) -> Stored {
         let name = format!("bench-{}-{name}", std::process::id());
         let path = std::env::temp_dir().join(name);
         fs::write(&path, contents).expect("the folder for temporary files");
         Stored(path)
+    }
+
+    /// A head, then the blocks again and again up to so many bytes of them: in pieces, as all of
+    /// them may be hundreds of megabytes.
+    pub fn repeated(name: &str, head: &[u8], blocks: &[u8], bytes: usize) -> Stored {
+        let stored = Stored::new(name, head);
+        let file = File::options().append(true).open(&stored.0);
+        let mut file = file.expect("the stored input");
+        let mut left = bytes;
+        while left > 0 {
+            let piece = &blocks[..left.min(blocks.len())];
+            file.write_all(piece).expect("room for temporary files");
+            left -= piece.len();
+        }
+        stored
     }
 }
 
@@ -66,7 +59,7 @@ fn command(program: &Path, input: &Stored) -> Command {
     command
 }
 
-fn printed(program: &Path, input: &Stored) -> String {
+pub fn printed(program: &Path, input: &Stored) -> String {
     let output = command(program, input).output();
     let output = output.unwrap_or_else(|error| panic!("{}: {error}", program.display()));
     String::from_utf8(output.stdout).expect("text")
@@ -91,7 +84,7 @@ const USUAL: f64 = 16.0;
 type Run<'a> = (&'a Path, &'a Stored);
 
 /// The best times of programs on their inputs, taking turns, and how often each was run.
-fn best_times<const COUNT: usize>(turns: usize, all: [Run; COUNT]) -> ([f64; COUNT], usize) {
+pub fn best_times<const COUNT: usize>(turns: usize, all: [Run; COUNT]) -> ([f64; COUNT], usize) {
     let mut best = [f64::INFINITY; COUNT];
     let more = (USUAL / time(all[0].0, all[0].1)).max(0.25);
     let runs = (turns as f64 * more).ceil() as usize;
@@ -117,7 +110,7 @@ fn literal_times(program: &Path, inputs: [&Stored; 2]) -> [f64; 2] {
 }
 
 /// The mean of the third field, the rounds, of the first blocks.
-fn mean_rounds(printed: &str, blocks: usize) -> f64 {
+pub fn mean_rounds(printed: &str, blocks: usize) -> f64 {
     let rounds = printed.lines().skip(1).take(blocks).map(|line| {
         let field = line.split(' ').nth(2).expect("a block's line");
         field.parse::<f64>().expect("rounds")
@@ -125,21 +118,22 @@ fn mean_rounds(printed: &str, blocks: usize) -> f64 {
     rounds.sum::<f64>() / blocks as f64
 }
 
-/// The programs in Rust stand beside this one.
-fn beside(name: &str) -> PathBuf {
+/// The programs in Rust and in C stand beside this one.
+pub fn beside(name: &str) -> PathBuf {
     let here = std::env::current_exe().expect("the path of this program");
     let path = here.with_file_name(name);
-    assert!(
-        path.exists(),
-        "{name} is missing: run `cargo build --release -p bench --features measure` first"
-    );
+    assert!(path.exists(), "{name} is missing: `make bench` builds it");
     path
 }
 
-fn decode() -> PathBuf {
-    let root = Path::new(env!("CARGO_MANIFEST_DIR")).join("..");
+/// The workspace's root.
+pub fn root() -> PathBuf {
+    Path::new(env!("CARGO_MANIFEST_DIR")).join("..")
+}
+
+pub fn decode() -> PathBuf {
     let named = std::env::var_os("DECODE").unwrap_or("target/bin/decode".into());
-    let path = root.join(&named);
+    let path = root().join(&named);
     assert!(
         path.exists(),
         "the program {} is missing: build it, or name it by DECODE",
@@ -148,66 +142,112 @@ fn decode() -> PathBuf {
     path
 }
 
-pub fn measure(turns: usize) {
-    let program = decode();
-    let [accumulate, bytes, bits, literal] = [
-        "bench_decode",
-        "bench_incremental",
-        "bench_incremental_bits",
-        "bench_literal",
-    ]
-    .map(beside);
+/// The forms that the program is measured against: heads of columns, and programs.
+const FORMS: [(&str, &str); 5] = [
+    ("C accumulate", "bench_accumulate_c"),
+    ("accumulate", "bench_decode"),
+    ("incremental, plain", "bench_incremental_plain"),
+    ("incremental, bytes", "bench_incremental"),
+    ("incremental, bits", "bench_incremental_bits"),
+];
+
+/// The numbers of the forms as cells of a table, with two decimals.
+fn cells(numbers: &[f64]) -> String {
+    let cells: Vec<String> = numbers.iter().map(|n| format!("{n:.2}")).collect();
+    cells.join(" | ")
+}
+
+fn print_heads(turns: usize) {
     println!();
     println!(
-        "Programs, each run a process of its own, CPU time with its start. The program and the three \
-         hand-optimised forms (accumulate; incremental, with a byte or with a bit a parity) take \
-         turns, and the best counts of as many runs of each as the column `runs` says: {turns} where \
-         a run of the program takes {USUAL} ms, more where it is shorter, fewer where it is longer, \
-         and a fourth of {turns} at least. Literal form: no block, the best of {LITERAL_RUNS} runs; \
-         200 and 4,000 blocks NOT measured but extrapolated, from the best of {LITERAL_RUNS} runs on \
-         the first {LITERAL_BLOCKS} blocks, whose rounds the last column has."
+        "Programs, each run a process of its own, CPU time with its start. The program, the two plain \
+         forms (C accumulate, of bench/c/accumulate.c by cc -O3; incremental, plain, in safe Rust) and \
+         the three hand-optimised ones (accumulate; incremental, with a byte or with a bit a parity) \
+         take turns, and the best counts of as many runs of each as the column `runs` says: {turns} \
+         where a run of the program takes {USUAL} ms, more where it is shorter, fewer where it is \
+         longer, and a fourth of {turns} at least. The form in C looks at lengths alone and has no \
+         matrix check. Literal form: no block, the best of {LITERAL_RUNS} runs; 200 and 4,000 blocks \
+         NOT measured but extrapolated, from the best of {LITERAL_RUNS} runs on the first \
+         {LITERAL_BLOCKS} blocks, whose rounds the last column has."
     );
     println!();
-    println!("| code | blocks | rounds | runs | program / accumulate | program / incremental, bytes | program / incremental, bits | literal / accumulate | program ms | accumulate ms | incremental, bytes ms | incremental, bits ms | literal ms (from {LITERAL_BLOCKS} blocks) | rounds of these |");
-    println!("|---|---|---|---|---|---|---|---|---|---|---|---|---|---|");
-    for (code, step, deviation) in cases() {
-        let whole = input(&code, 8, step, deviation, MOST);
-        let block = 4 * usize::from(code.matrix.n);
-        let stored = |count: usize| {
-            let name = format!("{}-{count}", code.name);
-            Stored::new(&name, &whole[..whole.len() - (MOST - count) * block])
+    println!(
+        "| code | blocks | rounds | runs | program / {} | literal / accumulate | program ms | accumulate ms | incremental, bytes ms | incremental, bits ms | literal ms (from {LITERAL_BLOCKS} blocks) | rounds of these |",
+        FORMS.map(|(head, _)| head).join(" | program / "),
+    );
+    println!("|{}", "---|".repeat(16));
+}
+
+/// The rows of a code; gives the times on the most blocks, the program's first.
+fn measure_code(
+    (code, step, deviation): Case,
+    forms: &[PathBuf; 6],
+    literal: &Path,
+    turns: usize,
+) -> [f64; 6] {
+    let whole = input(&code, 8, step, deviation, MOST);
+    let block = 4 * usize::from(code.matrix.n);
+    let stored = |count: usize| {
+        let name = format!("{}-{count}", code.name);
+        Stored::new(&name, &whole[..whole.len() - (MOST - count) * block])
+    };
+
+    let all = stored(MOST);
+    let [_, _, accumulate, ..] = forms;
+    let expected = printed(accumulate, &all);
+    for form in forms {
+        assert!(printed(form, &all) == expected, "{}", form.display());
+    }
+    let few = stored(LITERAL_BLOCKS);
+    assert!(expected.starts_with(&printed(literal, &few)));
+
+    let [literal_none, literal_few] = literal_times(literal, [&stored(0), &few]);
+    let for_each = (literal_few - literal_none) / LITERAL_BLOCKS as f64;
+    let few_rounds = mean_rounds(&expected, LITERAL_BLOCKS);
+    let times = BLOCKS.map(|blocks| {
+        let lent = stored(blocks);
+        let (best, runs) = best_times(turns, forms.each_ref().map(|form| (form.as_path(), &lent)));
+        let [by_program, others @ ..] = best;
+        let [_, by_accumulate, _, by_bytes, by_bits] = others;
+        let by_literal = literal_none + for_each * blocks as f64;
+        let rounds = match blocks {
+            0 => "none".to_string(),
+            _ => format!("{:.1}", mean_rounds(&expected, blocks)),
         };
+        println!(
+            "| {} | {blocks} | {rounds} | {runs} | {} | {:.1} | {} | {by_literal:.1} | {few_rounds:.1} |",
+            code.name,
+            cells(&others.map(|other| by_program / other)),
+            by_literal / by_accumulate,
+            cells(&[by_program, by_accumulate, by_bytes, by_bits]),
+        );
+        best
+    });
+    times[BLOCKS.len() - 1]
+}
 
-        let all = stored(MOST);
-        let expected = printed(&accumulate, &all);
-        for other in [&program, &bytes, &bits] {
-            assert!(printed(other, &all) == expected, "{}", other.display());
-        }
-        let few = stored(LITERAL_BLOCKS);
-        assert!(expected.starts_with(&printed(&literal, &few)));
-
-        let [literal_none, literal_few] = literal_times(&literal, [&stored(0), &few]);
-        let for_each = (literal_few - literal_none) / LITERAL_BLOCKS as f64;
-        let few_rounds = mean_rounds(&expected, LITERAL_BLOCKS);
-        for blocks in BLOCKS {
-            let lent = stored(blocks);
-            let forms = [&program, &accumulate, &bytes, &bits].map(|form| (form.as_path(), &lent));
-            let (best, runs) = best_times(turns, forms);
-            let [by_program, by_accumulate, by_bytes, by_bits] = best;
-            let by_literal = literal_none + for_each * blocks as f64;
-            let rounds = match blocks {
-                0 => "none".to_string(),
-                _ => format!("{:.1}", mean_rounds(&expected, blocks)),
-            };
-            println!(
-                "| {} | {blocks} | {rounds} | {runs} | {:.2} | {:.2} | {:.2} | {:.1} | {by_program:.2} | {by_accumulate:.2} | {by_bytes:.2} | {by_bits:.2} | {by_literal:.1} | {few_rounds:.1} |",
-                code.name,
-                by_program / by_accumulate,
-                by_program / by_bytes,
-                by_program / by_bits,
-                by_literal / by_accumulate,
-            );
-        }
+pub fn measure(turns: usize) {
+    let [c, accumulate, plain, bytes, bits] = FORMS.map(|(_, name)| beside(name));
+    let forms = [decode(), c, accumulate, plain, bytes, bits];
+    let literal = beside("bench_literal");
+    print_heads(turns);
+    let all = cases().map(|case| {
+        let name = case.0.name.clone();
+        (name, measure_code(case, &forms, &literal, turns))
+    });
+    println!();
+    println!(
+        "The same on {MOST} blocks the other way round: how many times as fast as each form the \
+         program is."
+    );
+    println!();
+    println!("| code | {} |", FORMS.map(|(head, _)| head).join(" | "));
+    println!("|{}", "---|".repeat(6));
+    for (name, [by_program, others @ ..]) in all {
+        println!(
+            "| {name} | {} |",
+            cells(&others.map(|other| other / by_program))
+        );
     }
 }
 

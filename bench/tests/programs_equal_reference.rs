@@ -1,17 +1,58 @@
-//! The hand-optimised programs print what the reference prints, byte for byte.
+//! The hand-optimised programs and the plain ones print what the reference prints, byte for byte.
 
 use bench::accumulate::Accumulate;
 use bench::incremental::{Bits, Bytes, Incremental};
+use bench::plain;
 use bench::whole::{program, Rounds};
 use generator::codes;
 use generator::{inputs, noise, settings, stream, Codewords, Random};
 use reference::{largest_level, Setting};
-use std::io::Read;
+use std::io::{Read, Write};
+use std::path::{Path, PathBuf};
+use std::process::{Command, Stdio};
+use std::sync::OnceLock;
 
 fn printed<R: Rounds>(input: impl Read) -> Vec<u8> {
     let mut printed = Vec::new();
     program::<R>(input, &mut printed);
     printed
+}
+
+fn printed_plain(input: &[u8]) -> Vec<u8> {
+    let mut printed = Vec::new();
+    plain::program(input, &mut printed).expect("bytes in memory");
+    printed
+}
+
+/// The program in C, compiled once for all tests.
+fn c_program() -> &'static Path {
+    static PROGRAM: OnceLock<PathBuf> = OnceLock::new();
+    PROGRAM.get_or_init(|| {
+        let program = Path::new(env!("CARGO_TARGET_TMPDIR")).join("bench_accumulate_c");
+        let source = Path::new(env!("CARGO_MANIFEST_DIR")).join("c/accumulate.c");
+        let mut cc = Command::new("cc");
+        cc.args(["-std=c99", "-Wall", "-Wextra", "-Werror", "-O3"]);
+        let status = cc.arg(source).arg("-o").arg(&program).status();
+        assert!(status.expect("cc is there").success());
+        program
+    })
+}
+
+fn printed_by_c(input: &[u8]) -> Vec<u8> {
+    let mut child = Command::new(c_program())
+        .stdin(Stdio::piped())
+        .stdout(Stdio::piped())
+        .spawn()
+        .expect("the program in C runs");
+    let mut to = child.stdin.take().expect("its standard input");
+    std::thread::scope(|scope| {
+        // It may end before it has read all.
+        scope.spawn(move || to.write_all(input).ok());
+        child
+            .wait_with_output()
+            .expect("its standard output")
+            .stdout
+    })
 }
 
 fn compare(inputs: Vec<inputs::Named>) {
@@ -22,8 +63,14 @@ fn compare(inputs: Vec<inputs::Named>) {
             printed::<Accumulate>(&input[..]),
             printed::<Incremental<Bytes>>(&input[..]),
             printed::<Incremental<Bits>>(&input[..]),
+            printed_plain(&input),
         ] {
             assert_eq!(String::from_utf8_lossy(&printed), expected, "{name}");
+        }
+        // It looks at lengths only, and no refused head is for it.
+        if !expected.contains("\nrefused") {
+            let printed = printed_by_c(&input);
+            assert_eq!(String::from_utf8_lossy(&printed), expected, "{name}, C");
         }
     }
 }

@@ -25,14 +25,22 @@ pub fn number16(bytes: &[u8], p: usize) -> u16
     wide(bytes[p]) + 256 * wide(bytes[p + 1])
 }
 
-// The 32-bit number at byte p. Only this repository's crates call it, where the bytes have one.
+// A byte as a number of 32 bits.
+fn wider(b: u8) -> u32
+    ensures { λ r. ⌜ (r ≡ b) × (r < 256) ⌝ }
+{
+    b as u32
+}
+
+// The 32-bit number at byte p, of its four bytes, so that the compiled code is one load. Only this repository's crates call it, where the bytes have one.
 pub fn number32(bytes: &[u8], p: usize) -> u32
     requires { ⌜ p + 3 < length (now bytes) ⌝ }
     ensures { λ r. ⌜ r ≡ Numbers·number32 (now (bytes .entry)) p ⌝ }
 {
-    let low = number16(bytes, p);
-    let high = number16(bytes, p + 2);
-    low as u32 + 65536 * (high as u32)
+    wider(bytes[p])
+        + 256 * wider(bytes[p + 1])
+        + 65536 * wider(bytes[p + 2])
+        + 16777216 * wider(bytes[p + 3])
 }
 
 // A 16-bit number at byte p, low byte first. Only this repository's crates call it, with room for it.

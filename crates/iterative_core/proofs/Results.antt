@@ -1,4 +1,5 @@
 -- From the samples to the arrays of a running decoder, and from where it stops to what is written and counted.
+--   level-at          == the level of sample j stands at place j
 --   levels-length     == filling the levels leaves their buffer as long as it was
 --   filled-bounded    == the levels filled lie from -L to L, so they can be kept as numbers
 --   filled-started    == the levels kept as numbers and the hard bits are those of a started decoder
@@ -48,7 +49,7 @@ use Rattle.iterative_rounds.proofs.Runs.{holds-alike, alike-holds}
 
 module _ (S : Setting) (xs : List Float) (ls ls′ : List ℤ) where
   -- the level of sample j stands at place j
-  level-at : ls′ ≡ over (levelsOf S xs) ls → (j : ℕ) → j < length xs → getD ls′ j (pos 0) ≡ levelOf S (getD xs j nan)
+  pub level-at : ls′ ≡ over (levelsOf S xs) ls → (j : ℕ) → j < length xs → getD ls′ j (pos 0) ≡ levelOf S (getD xs j nan)
   unfolding levelsOf
   level-at e j l =
       let f : ℕ → ℤ = λ j. levelOf S (getD xs j nan) in

@@ -12,23 +12,21 @@
 -- Assumes nothing.
 use mathlib.Core.Path.{_≡_, refl, sym, ap, _∙_}
 use mathlib.Core.List.{List}
-use Prim.Native.Nat.{ℕ, _+_, _≤_, _<_}
+use Prim.Native.Nat.{ℕ, _+_, _*_, _≤_, _<_}
 use native.Mathlib.Numerals.{add-one}
 use native.Mathlib.Decide.{ℕ-discrete}
 use native.Mathlib.Omega.{arith}
 use lib.IntN.{subℕ}
 use Rattle.counting.proofs.Integers.{abs-sub}
 use Rattle.counting.specs.Places.{at}
-use Rattle.matrix.specs.Paper.Code.{Matrix, Word, failing}
+use Rattle.matrix.specs.Paper.Code.{Matrix, Word, weight, failing}
 use Rattle.matrix.proofs.Rows.{failing-cong}
 use Rattle.majority_votes.specs.Tallies.{Tallied}
-use Rattle.syndrome_update.specs.Parities.{Parities}
-use Rattle.iterative_tally.specs.Retally.{Retallied}
 use Rattle.iterative_rounds.specs.Paper.Rounds.{State}
 use Rattle.iterative_levels.specs.Levels.{biased, unbiased, Moved}
 use Rattle.iterative_rounds.specs.Paper.Ends.{stateAt}
 use Rattle.iterative_rounds.specs.Alike.{Alike}
-use Rattle.iterative_rounds.specs.Runs.{stateOf, Holds, RunLent, Rounded, RunLeft}
+use Rattle.iterative_rounds.specs.Runs.{stateOf, Holds, RunLent, RunLeft}
 use Rattle.iterative_levels.proofs.Levels.{biased-le, biased-back, back-biased, above-middle-bit}
 use Rattle.iterative_rounds.proofs.Ends.{end-at}
 use Rattle.iterative_rounds.proofs.States.{holds-word, round-holds}
@@ -86,10 +84,9 @@ moved-word H v w L ceiling z x z′ x′ m j l = omega (arith, m .bits j l, abov
 -- ---- the invariant
 
 -- what holds after k rounds of the loop
-pub record Going (H : Matrix) (L limit : ℕ) (z₀ x₀ z x p v : List ℕ) (f k : ℕ) : Type 0 where
+pub record Going (H : Matrix) (L limit : ℕ) (z₀ x₀ z x v : List ℕ) (f k : ℕ) : Type 0 where
   pub within : k ≤ limit
   pub holds : Holds (H .n) L z x (stateAt H L (stateOf L z₀ x₀) k)
-  pub parities : Parities H (at z) p
   pub tallied : Tallied H (at z) v f
   pub earlier : (t : ℕ) → t < k → 0 < failing H (stateAt H L (stateOf L z₀ x₀) t .z)
   pub rest-word : (j : ℕ) → H .n ≤ j → at z j ≡ at z₀ j
@@ -97,20 +94,19 @@ pub record Going (H : Matrix) (L limit : ℕ) (z₀ x₀ z x p v : List ℕ) (f 
 
 module _ (H : Matrix) (L limit : ℕ) (z₀ x₀ : List ℕ) (r : RunLent H L z₀ x₀) where
   -- it holds before the first round
-  pub going-starts : (p₀ p v : List ℕ) (f : ℕ) → Retallied H (at z₀) p₀ p v f → Going H L limit z₀ x₀ z₀ x₀ p v f 0
+  pub going-starts : (v : List ℕ) (f : ℕ) → Tallied H (at z₀) v f → Going H L limit z₀ x₀ z₀ x₀ v f 0
   unfolding stateAt
-  going-starts p₀ p v f t =
+  going-starts v f t =
       record {
         within = omega arith;
         holds = lent-holds H L z₀ x₀ r;
-        parities = t .renewed .parities;
-        tallied = t .tallied;
+        tallied = t;
         earlier = λ i h. absurd (omega arith);
         rest-word = λ j past. refl;
         rest-levels = λ j past. refl;
       }
 
-  module _ (z x p v : List ℕ) (f k : ℕ) (g : Going H L limit z₀ x₀ z x p v f k) where
+  module _ (z x v : List ℕ) (f k : ℕ) (g : Going H L limit z₀ x₀ z x v f k) where
     now-fails : f ≡ failing H (stateAt H L (stateOf L z₀ x₀) k .z)
     now-fails = g .tallied .count ∙ failing-cong H (r .matrix .rows) (at z) (stateAt H L (stateOf L z₀ x₀) k .z) (g .holds .word)
 
@@ -129,17 +125,16 @@ module _ (H : Matrix) (L limit : ℕ) (z₀ x₀ : List ℕ) (r : RunLent H L z�
         }
 
     -- one round more
-    pub going-step : 0 < f → k < limit → (z′ x′ p′ v′ : List ℕ) (f′ : ℕ) → Rounded H L v z x z′ x′ p p′ v′ f′
-        → Going H L limit z₀ x₀ z′ x′ p′ v′ f′ (k + 1)
+    pub going-step : 0 < f → k < limit → (z′ x′ v′ : List ℕ) (f′ : ℕ) → Moved v (weight H) (H .n) L (2 * L) z x z′ x′ → Tallied H (at z′) v′ f′
+        → Going H L limit z₀ x₀ z′ x′ v′ f′ (k + 1)
     unfolding stateAt
-    going-step h l z′ x′ p′ v′ f′ t =
+    going-step h l z′ x′ v′ f′ m t =
         rw (add-one k)
         (record {
           within = omega arith;
-          holds = round-holds H (r .matrix .rows) L (stateAt H L (stateOf L z₀ x₀) k) v z x z′ x′ (g .holds) (g .tallied .each) (t .moved);
-          parities = t .tallied .renewed .parities;
-          tallied = t .tallied .tallied;
+          holds = round-holds H (r .matrix .rows) L (stateAt H L (stateOf L z₀ x₀) k) v z x z′ x′ (g .holds) (g .tallied .each) m;
+          tallied = t;
           earlier = λ i q. elim (ℕ-discrete i k) [ yes e ↦ rw e (omega (arith, now-fails)) | no ne ↦ g .earlier i (omega arith) ];
-          rest-word = λ j past. t .moved .rest-word j past ∙ g .rest-word j past;
-          rest-levels = λ j past. t .moved .rest-levels j past ∙ g .rest-levels j past;
+          rest-word = λ j past. m .rest-word j past ∙ g .rest-word j past;
+          rest-levels = λ j past. m .rest-levels j past ∙ g .rest-levels j past;
         })

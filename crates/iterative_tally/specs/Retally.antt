@@ -5,14 +5,13 @@
 use Prim.Native.Nat.{ℕ}
 use mathlib.Core.List.{List}
 use Rattle.matrix.specs.Paper.Code.{Matrix}
-use Rattle.syndrome.specs.Places.{PlacesListed}
-use Rattle.syndrome_update.specs.Parities.{differing, Renewed}
+use Rattle.syndrome_update.specs.Parities.{differing, FlipsListed, Renewed}
 use Rattle.majority_votes.specs.Tallies.{Tallied}
 
 pub record RenewedBy (H : Matrix) (a z : ℕ → ℕ) (l l′ p p′ : List ℕ) : Type 0 where
   pub renewed : Renewed H z p p′
   pub flips : ℕ
-  pub listed : PlacesListed (differing a z) (H .n) l l′ flips
+  pub listed : FlipsListed (differing a z) (H .n) l l′ flips
 
 pub record Retallied (H : Matrix) (z : ℕ → ℕ) (p p′ v : List ℕ) (f : ℕ) : Type 0 where
   pub renewed : Renewed H z p p′

@@ -2,29 +2,37 @@
 --   among-none      == no column of a row has its vote yet
 --   among-next      == a column that is still to be voted for has room for its vote
 --   among-step      == one column more has its vote
+--   among-parts     == a part of the list in two parts: what these add is what the part adds
+--   among-within    == and what the first of them and the next have is no more than the whole has
+--   part-within     == such a part is a part
+--   some-next       == the next columns of a row have room for their votes
+--   some-step       == so many columns more have their votes
+--   some-rest       == the rest of the columns has too
 --   rows-none       == no row has added its votes yet
 --   rows-next       == the next row has room for its votes
 --   rows-step       == one row more has added its votes
+--   places-parts    == rows of the matrix that are listed are rows of the list
+--   places-votes    == what rows that are listed where f is 1 add at a bit: f of each row that has the bit
 --   failing-parts   == the failing rows are rows of the list
 --   failing-votes   == what the failing rows add is the votes
 --   failing-room    == what they add fits a cleared array
 --   tallied         == a cleared array to which they are added is the tally of the votes
 -- Assumes nothing.
-use mathlib.Core.Path.{_≡_, sym, _∙_}
+use mathlib.Core.Path.{_≡_, sym, ap, _∙_}
 use mathlib.Core.List.{List}
 use mathlib.Core.Logic.{inl, inr}
-use Prim.Native.Nat.{ℕ, _+_, _*_, _<_, _≤_}
-use native.Mathlib.Nat.{mul-comm}
+use Prim.Native.Nat.{ℕ, _+_, _-_, _*_, _<_, _≤_}
+use native.Mathlib.Nat.{add-assoc, mul-comm}
 use native.Mathlib.Numerals.{add-one}
 use native.Mathlib.Omega.{arith}
 use lib.ListN.{length, set, replicate, length-set, length-replicate}
 use Rattle.counting.specs.Paper.Sum.{sumBelow, same}
 use Rattle.counting.specs.Places.{at, among}
-use Rattle.counting.proofs.Sums.{sum-cong, sum-next, same-refl, same-ne}
+use Rattle.counting.proofs.Sums.{sum-cong, sum-append, sum-part, sum-next, same-refl, same-ne}
 use Rattle.counting.proofs.Writes.{stored, zeros}
 use Rattle.matrix.specs.Paper.Code.{Matrix, entry, has, fails, failing}
 use Rattle.matrix.specs.Paper.PlainCheck.{Accepted}
-use Rattle.syndrome.specs.Places.{Places}
+use Rattle.syndrome.specs.Places.{Part, Places}
 use Rattle.syndrome.proofs.Parity.{row-part}
 use Rattle.syndrome.proofs.Lists.{places-sum}
 use Rattle.majority_logic.specs.Paper.Votes.{votes}
@@ -61,6 +69,51 @@ among-step l from k old new h t =
     x : ℕ
     x = at l (from + k)
 
+-- ---- a row in parts
+
+-- a part of the list in two parts
+pub among-parts : (l : List ℕ) (from k r j : ℕ) → among l from (k + r) j ≡ among l from k j + among l (from + k) r j
+unfolding among
+among-parts l from k r j =
+    sum-append k r (λ q. same (at l (from + q)) j)
+    ∙ ap (λ (y : ℕ). sumBelow k (λ q. same (at l (from + q)) j) + y) (sum-cong r (λ q h. ap (λ (y : ℕ). same (at l y) j) (sym (add-assoc from k q))))
+
+-- what the first of them and the next have is no more than the whole has
+pub among-within : (l : List ℕ) (from count k r j : ℕ) → k + r ≤ count → among l from k j + among l (from + k) r j ≤ among l from count j
+unfolding among
+among-within l from count k r j h =
+    omega (arith, among-parts l from k r j, sum-part (k + r) count (λ q. same (at l (from + q)) j) h)
+
+-- such a part is a part
+pub part-within : (l : List ℕ) (from count k r : ℕ) → k + r ≤ count → Part l from count → Part l (from + k) r
+part-within l from count k r h p =
+    record {
+      room = omega (arith, p .room);
+      short = omega (arith, p .short);
+      below = λ q b. rw (add-assoc from k q) (p .below (k + q) (omega arith));
+    }
+
+-- the next columns have room for their votes
+pub some-next : (l : List ℕ) (from count k r : ℕ) (old mid : List ℕ) → k + r ≤ count → Addable (among l from count) old
+    → More (among l from k) old mid
+    → Addable (among l (from + k) r) mid
+some-next l from count k r old mid h a m =
+    record { long = m .long; fits = λ j. omega (arith, m .each j, a .fits j, among-within l from count k r j h) }
+
+-- so many columns more
+pub some-step : (l : List ℕ) (from k r : ℕ) (old mid new : List ℕ) → More (among l from k) old mid → More (among l (from + k) r) mid new
+    → More (among l from (k + r)) old new
+some-step l from k r old mid new t u =
+    record { long = u .long; each = λ j. omega (arith, t .each j, u .each j, among-parts l from k r j) }
+
+-- the rest of them
+pub some-rest : (l : List ℕ) (from count k : ℕ) (old mid new : List ℕ) → k ≤ count → More (among l from k) old mid
+    → More (among l (from + k) (count - k)) mid new
+    → More (among l from count) old new
+some-rest l from count k old mid new h t u =
+    let e : k + (count - k) ≡ count = omega arith in
+    rw e at (some-step l from k (count - k) old mid new t u)
+
 -- ---- the listed rows
 
 -- no row has added its votes yet
@@ -84,24 +137,35 @@ unfolding ofRows sumBelow
 rows-step l rho rows q old mid new t u =
     rw (add-one q) record { long = u .long; each = λ j. omega (arith, t .each j, u .each j) }
 
--- ---- all failing rows
+-- ---- rows of a matrix, listed where f is 1
 
-module _ (H : Matrix) (a : Accepted H) (z : ℕ → ℕ) (rows : List ℕ) (t : ℕ) (p : Places (fails H z) (H .m) rows t) where
+module _ (H : Matrix) (a : Accepted H) (f : ℕ → ℕ) (rows : List ℕ) (t : ℕ) (p : Places f (H .m) rows t) where
   -- they are rows of the list
-  pub failing-parts : ListedRows (H .list) (H .rho) rows t
-  failing-parts =
+  pub places-parts : ListedRows (H .list) (H .rho) rows t
+  places-parts =
       record {
         few = omega (arith, p .few, a .sizes .m-most);
         below = λ q h. omega (arith, p .below q h, a .sizes .m-most);
         part = λ q h. row-part H a (at rows q) (p .below q h);
       }
 
+  -- what they add
+  pub places-votes : (j : ℕ) → ofRows (H .list) (H .rho) rows t j ≡ sumBelow (H .m) (λ i. has H i j * f i)
+  unfolding ofRows among has entry
+  places-votes j =
+      places-sum f (H .m) rows t p (λ i. has H i j) ∙ sum-cong (H .m) (λ i h. mul-comm (f i) (has H i j))
+
+-- ---- all failing rows
+
+module _ (H : Matrix) (a : Accepted H) (z : ℕ → ℕ) (rows : List ℕ) (t : ℕ) (p : Places (fails H z) (H .m) rows t) where
+  -- they are rows of the list
+  pub failing-parts : ListedRows (H .list) (H .rho) rows t
+  failing-parts = places-parts H a (fails H z) rows t p
+
   -- what they add is the votes
   pub failing-votes : (j : ℕ) → ofRows (H .list) (H .rho) rows t j ≡ votes H z j
-  unfolding ofRows among votes has entry
-  failing-votes j =
-      places-sum (fails H z) (H .m) rows t p (λ i. has H i j)
-      ∙ sum-cong (H .m) (λ i h. mul-comm (fails H z i) (has H i j))
+  unfolding votes
+  failing-votes j = places-votes H a (fails H z) rows t p j
 
   -- which fit a cleared array
   pub failing-room : Addable (ofRows (H .list) (H .rho) rows t) (replicate 1023 0)

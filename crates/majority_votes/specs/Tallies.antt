@@ -3,6 +3,8 @@
 --   ListedRows l rho rows t   == these rows are parts of l
 --   Addable f v               == f more at every place of the array v fits its bytes
 --   More f old new            == the array with f more at every place
+--   Takeable f v              == every place of the array v has f or more
+--   Fewer f old new           == the array with f fewer at every place
 --   Tallied H z v f           == v is the votes on the word z, and f the number of failing checks
 -- Assumes nothing.
 use mathlib.Core.Path.{_≡_}
@@ -34,6 +36,16 @@ pub record Addable (f : ℕ → ℕ) (v : List ℕ) : Type 0 where
 pub record More (f : ℕ → ℕ) (old new : List ℕ) : Type 0 where
   pub long : length new ≡ 1023
   pub each : (j : ℕ) → at new j ≡ at old j + f j
+
+-- an array of 1,023 bytes from which f can be taken
+pub record Takeable (f : ℕ → ℕ) (v : List ℕ) : Type 0 where
+  pub long : length v ≡ 1023
+  pub there : (j : ℕ) → f j ≤ at v j
+
+-- f is taken
+pub record Fewer (f : ℕ → ℕ) (old new : List ℕ) : Type 0 where
+  pub long : length new ≡ 1023
+  pub each : (j : ℕ) → at new j + f j ≡ at old j
 
 -- the votes of the failing checks, and how many these are
 pub record Tallied (H : Matrix) (z : ℕ → ℕ) (v : List ℕ) (f : ℕ) : Type 0 where

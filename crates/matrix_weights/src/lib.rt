@@ -1,39 +1,23 @@
 // Refusals 3 and 4: one pass over the list for the first bad entry, which counts the columns' weights, and the first weight that is off.
 // Rests on `matrix`. Document 01: "Refused for the input" 3 and 4. Document 02: card 2.
 use matrix::Shape;
-ghost use mathlib.Core.Bool.{not};
+ghost use mathlib.Core.Bool.{not, _||_};
 ghost use mathlib.Core.Path.{_≡_};
-ghost use Prim.Native.Nat.{_+_, _%_, _<_, _≤_};
-ghost use lib.ListN.{length, getD, set};
+ghost use Prim.Native.Nat.{_+_, _<_, _≤_};
+ghost use lib.Dec.{leb};
+ghost use lib.ListN.{getD, set};
 ghost use Rattle.counting.specs.Paper.Search.{anyBelow, first};
-ghost use Rattle.matrix.specs.Paper.Check.{within, badEntry};
+ghost use Rattle.matrix.specs.Paper.Check.{within};
 ghost use Rattle.matrix.specs.Ordered.{Sized};
 ghost use Rattle.matrix.specs.Paper.Shapes.{matrixOf};
 ghost use Rattle.matrix.specs.Tallies.{Tally};
-ghost use Rattle.matrix_weights.specs.Weights.{listAt, Walked, outWeight, leastWeight, offWeights, weightsFit};
+ghost use Rattle.matrix_weights.specs.Weights.{listAt, Walked, RowAhead, RowWalked, outWeight, leastWeight, offWeights, weightsFit};
 
-// The place in its row of the entry after one at place k.
-fn next_place(k: usize, rho: usize) -> usize
-    requires { ⌜ k < rho ⌝ }
-    ensures { λ r. ⌜ r ≡ (k + 1) % rho ⌝ }
+// Whether an entry that does not begin its row is not below n or not above the one before it.
+fn bad_after(n: u16, before: u16, c: u16) -> bool
+    ensures { λ r. ⌜ r ≡ (leb n c || leb c before) ⌝ }
 {
-    if k + 1 == rho { 0 } else { k + 1 }
-}
-
-// Whether entry p, at place k of its row, is not below n or not above the one before it.
-fn bad_entry(shape: Shape, list: &[u16], p: usize, k: usize) -> bool
-    requires { ⌜ (p < length (now list)) × (k ≡ p % (shape .rho)) ⌝ }
-    ensures { λ r. ⌜ r ≡ badEntry (matrixOf shape (now (list .entry))) p ⌝ }
-{
-    let n = shape.n;
-    let c = list[p];
-    if n <= c {
-        return true;
-    }
-    if k == 0 {
-        return false;
-    }
-    c <= list[p - 1]
+    (n <= c) | (c <= before)
 }
 
 // Counts column c once more.
@@ -44,7 +28,31 @@ fn count(tally: &mut [u16; 1023], c: usize)
     tally[c] += 1;
 }
 
-// The first bad entry, else the list's length. The same pass counts the columns of the entries before it: the weights, where none is bad.
+// The place in its row of the first bad entry of the row that begins at `start`, else rho. Counts the columns of the entries before it.
+fn walk_row(n: u16, list: &[u16], start: usize, rho: usize, weights: &mut [u16; 1023]) -> usize
+    requires { ⌜ RowAhead n (now list) start rho (now weights) ⌝ }
+    ensures { λ r. ⌜ RowWalked n (now (list .entry)) start rho (now (weights .exit)) r ⌝ }
+{
+    let first = list[start];
+    if n <= first {
+        return 0;
+    }
+    count(weights, first as usize);
+    let mut before = first;
+    let mut k = 1;
+    while k < rho {
+        let c = list[start + k];
+        if bad_after(n, before, c) {
+            return k;
+        }
+        count(weights, c as usize);
+        before = c;
+        k += 1;
+    }
+    k
+}
+
+// The first bad entry, else the list's length. The same pass, row by row, counts the columns of the entries before it: the weights, where none is bad.
 // Only this repository's crates call it, after asking refusals 1 and 2.
 pub fn walk(shape: Shape, list: &[u16], weights: &mut [u16; 1023]) -> usize
     requires { ⌜ Sized (matrixOf shape (now list)) × Tally (listAt (matrixOf shape (now list))) 0 (now weights) ⌝ }
@@ -52,14 +60,12 @@ pub fn walk(shape: Shape, list: &[u16], weights: &mut [u16; 1023]) -> usize
 {
     let rho = shape.rho as usize;
     let mut p = 0;
-    let mut k = 0;
     while p < list.len() {
-        if bad_entry(shape, list, p, k) {
+        let k = walk_row(shape.n, list, p, rho, weights);
+        p += k;
+        if k < rho {
             return p;
         }
-        count(weights, list[p] as usize);
-        k = next_place(k, rho);
-        p += 1;
     }
     p
 }

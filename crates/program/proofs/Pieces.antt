@@ -11,21 +11,21 @@ use Prim.Native.Nat.{ℕ, _≤_, _<_}
 use native.Mathlib.Omega.{arith}
 use lib.ListN.{length, take, length-take}
 use Rattle.program_ends.specs.Stages.{Awaited, wanted, firstReply}
-use Rattle.program_ends.specs.Replies.{Readable, IndexHeld, RepliedOver, indexAfter}
+use Rattle.program_ends.specs.Replies.{Readable, TablesHeld, RepliedOver, tablesAfter}
 use Rattle.program_ends.proofs.Stages.{wanted-fits, readable-next, held-next, rank, rank-falls}
 use Rattle.program.specs.Pieces.{PieceLent, Piece, Replies, more}
 
 -- the run begins
 pub lent-first : {a : Awaited} {w e : ℕ} {l x input out₀ out : List ℕ} → RepliedOver firstReply a w e out₀ out
-    → length l ≡ 32736 → length x ≡ 33760 → length input ≡ 65536 → length out ≡ 65536
+    → length l ≡ 32736 → length x ≡ 19441 → length input ≡ 65536 → length out ≡ 65536
     → PieceLent a w l x input out
 lent-first {x = x} r f g h k =
     record {
       readable = subst Readable (sym (r .reply .awaited)) tt;
       want = r .reply .want ∙ ap wanted (sym (r .reply .awaited));
       list = f;
-      index = g;
-      held = subst (λ (a : Awaited). IndexHeld a x) (sym (r .reply .awaited)) tt;
+      tables = g;
+      held = subst (λ (a : Awaited). TablesHeld a x) (sym (r .reply .awaited)) tt;
       long = h;
       room = k;
     }
@@ -36,12 +36,12 @@ module _ {a : Awaited} {w : ℕ} {l x input out : List ℕ} (b : PieceLent a w l
   fits = omega (arith, b .want, b .long, wanted-fits a (b .readable))
 
   module _ {a′ : Awaited} {w′ e : ℕ} {l′ x′ input′ out′ : List ℕ} (p : Piece a l l′ x x′ input input′ a′ w′ e out out′) where
-    -- the index that is needed next is held
-    held-then : IndexHeld a′ x′
+    -- the tables that are needed next are held
+    held-then : TablesHeld a′ x′
     held-then =
         let bs = take (p .got) input′ in
-        subst (λ (y : List ℕ). IndexHeld a′ y) (sym (p .advanced .index))
-        (subst (λ (c : Awaited). IndexHeld c (indexAfter a bs x)) (sym (p .advanced .replied .reply .awaited)) (held-next a bs x (b .readable) (b .held)))
+        subst (λ (y : List ℕ). TablesHeld a′ y) (sym (p .advanced .tables))
+        (subst (λ (c : Awaited). TablesHeld c (tablesAfter a bs x)) (sym (p .advanced .replied .reply .awaited)) (held-next a bs x (b .readable) (b .held)))
 
     -- after a piece the run can go on
     pub lent-next : length l′ ≡ length l → length x′ ≡ length x → length input′ ≡ length input → length out′ ≡ length out
@@ -51,7 +51,7 @@ module _ {a : Awaited} {w : ℕ} {l x input out : List ℕ} (b : PieceLent a w l
           readable = subst Readable (sym (p .advanced .replied .reply .awaited)) (readable-next a (take (p .got) input′) (b .readable));
           want = p .advanced .replied .reply .want ∙ ap wanted (sym (p .advanced .replied .reply .awaited));
           list = f ∙ b .list;
-          index = g ∙ b .index;
+          tables = g ∙ b .tables;
           held = held-then;
           long = h ∙ b .long;
           room = k ∙ b .room;

@@ -1,6 +1,6 @@
 -- The run as it reads its input: piece by piece.
 --   piecesText t a bs                   == the texts of t replies from a on, each to the front of what is left of the input
---   PieceLent a w l x input out         == the run awaits a, which wants w bytes, its buffers are long enough, and the index is held
+--   PieceLent a w l x input out         == the run awaits a, which wants w bytes, its buffers are long enough, and the tables are held
 --   Piece a l l′ x x′ input input′ ..   == the front of `input′` came for a; a′ is awaited then, and the reply's text stands before e in `out′`
 --   Replies a b                         == from a on, replies to pieces of input lead to b
 --   RunDone a b                         == they do, and b wants nothing more
@@ -10,7 +10,7 @@ use mathlib.Core.Path.{_≡_}
 use mathlib.Core.List.{List, [], _++_}
 use lib.ListN.{length, take, drop}
 use Rattle.program_ends.specs.Stages.{Awaited, wanted, replyTo}
-use Rattle.program_ends.specs.Replies.{Readable, IndexHeld, Advanced}
+use Rattle.program_ends.specs.Replies.{Readable, TablesHeld, Advanced}
 
 -- a reply gets the bytes that it wants, or all that are left
 unfoldable pub piecesText : ℕ → Awaited → List ℕ → List ℕ
@@ -22,8 +22,8 @@ pub record PieceLent (a : Awaited) (w : ℕ) (l x input out : List ℕ) : Type 0
   pub readable : Readable a
   pub want : w ≡ wanted a
   pub list : length l ≡ 32736
-  pub index : length x ≡ 33760
-  pub held : IndexHeld a x
+  pub tables : length x ≡ 19441
+  pub held : TablesHeld a x
   pub long : length input ≡ 65536
   pub room : length out ≡ 65536
 

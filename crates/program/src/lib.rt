@@ -11,15 +11,15 @@ fn read_and_reply(
     stage: Stage,
     want: usize,
     list: &mut [u16],
-    index: &mut [u16],
+    tables: &mut [u64],
     input: &mut [u8],
     out: &mut [u8],
 ) -> Next
-    requires { ⌜ PieceLent (awaitedOf stage (now list)) want (now list) (now index) (now input) (now out) ⌝ }
-    ensures { λ r. ⌜ Piece (awaitedOf stage (now (list .entry))) (now (list .entry)) (now (list .exit)) (now (index .entry)) (now (index .exit)) (now (input .entry)) (now (input .exit)) (awaitedOf (r .stage) (now (list .exit))) (r .want) (r .end) (now (out .entry)) (now (out .exit)) ⌝ }
+    requires { ⌜ PieceLent (awaitedOf stage (now list)) want (now list) (now tables) (now input) (now out) ⌝ }
+    ensures { λ r. ⌜ Piece (awaitedOf stage (now (list .entry))) (now (list .entry)) (now (list .exit)) (now (tables .entry)) (now (tables .exit)) (now (input .entry)) (now (input .exit)) (awaitedOf (r .stage) (now (list .exit))) (r .want) (r .end) (now (out .entry)) (now (out .exit)) ⌝ }
 {
     let got = program_io::read(input, want);
-    let next = program_ends::reply_to(stage, list, index, input, got, out);
+    let next = program_ends::reply_to(stage, list, tables, input, got, out);
     program_io::print(out, next.end);
     next
 }
@@ -28,30 +28,30 @@ fn read_and_reply(
 fn until_done(
     first: Next,
     list: &mut [u16],
-    index: &mut [u16],
+    tables: &mut [u64],
     input: &mut [u8],
     out: &mut [u8],
 ) -> Stage
-    requires { ⌜ PieceLent (awaitedOf (first .stage) (now list)) (first .want) (now list) (now index) (now input) (now out) ⌝ }
+    requires { ⌜ PieceLent (awaitedOf (first .stage) (now list)) (first .want) (now list) (now tables) (now input) (now out) ⌝ }
     ensures { λ r. ⌜ RunDone (awaitedOf (first .stage) (now (list .entry))) (awaitedOf r (now (list .exit))) ⌝ }
 {
     let mut stage = first.stage;
     let mut want = first.want;
     while 0 < want {
-        let next = read_and_reply(stage, want, list, index, input, out);
+        let next = read_and_reply(stage, want, list, tables, input, out);
         stage = next.stage;
         want = next.want;
     }
     stage
 }
 
-// The program. The index has at most 1,024 starting places and 32,736 row numbers.
+// The program. The tables have 2,050 least magnitudes, and 17 cells for each of at most 1,023 columns.
 pub fn run() {
     let mut list = [0u16; 32736];
-    let mut index = [0u16; 33760];
+    let mut tables = [0u64; 19441];
     let mut input = io::large_buffer();
     let mut out = io::large_buffer();
     let first = program_ends::first(&mut out);
     program_io::print(&out, first.end);
-    until_done(first, &mut list, &mut index, &mut input, &mut out);
+    until_done(first, &mut list, &mut tables, &mut input, &mut out);
 }

@@ -10,9 +10,9 @@
 --   setting-short, setting-whole            == the reply to the setting
 --   reply                                   == a reply by its text and what is awaited next
 --   blocks-last, blocks-more                == what is awaited after blocks
---   index-front                             == the index at the front of its array
+--   tables-front                            == the tables at the front of their array
 --   opened-reply                            == a run that begins, by what was found
---   opened-index                            == and the array of the index
+--   opened-tables                           == and the array of the tables
 --   asked-at, replied-at                    == a stage by its case
 --   countable                               == the blocks that came may be printed
 -- Assumes nothing.
@@ -28,7 +28,8 @@ use Rattle.counting.specs.Paper.Lists.{over}
 use Rattle.byte_numbers.specs.Paper.Numbers.{entriesIn}
 use Rattle.matrix.specs.Paper.Code.{Matrix}
 use Rattle.matrix.specs.Paper.Check.{sizesFit}
-use Rattle.matrix_index.specs.Paper.Index.{indexOf, indexSize}
+use Rattle.matrix_columns.specs.Columns.{columnsSize}
+use Rattle.program_tables.specs.Tables.{tablesOf, tablesSize}
 use Rattle.quantiser_levels.specs.Paper.Samples.{Setting}
 use Rattle.program_numerals.specs.Texts.{PutWithin}
 use Rattle.program_numerals.proofs.Puts.{put-front, put-length, put-rest}
@@ -40,7 +41,7 @@ use Rattle.program_lines.specs.Loans.{Countable}
 use Rattle.program_turns.specs.Turns.{atOnce, bytesAtOnce, AtOnce}
 use Rattle.program_ends.specs.Stages.{Awaited, theList, theSetting, blocksFrom, withList, Reply, ends, goesOn, openedReply, sizesReply}
 use Rattle.program_ends.specs.Stages.{listReply, settingReply, blocksReply, replyTo}
-use Rattle.program_ends.specs.Replies.{awaitedOf, Asked, Replied, RepliedOver, listAfter, indexOpened, indexAfter, Advanced}
+use Rattle.program_ends.specs.Replies.{awaitedOf, Asked, Replied, RepliedOver, listAfter, tablesOpened, tablesAfter, Advanced}
 use Rattle.program_ends.specs.declared.Stage.{Stage}
 
 -- ---- the text of a reply
@@ -130,20 +131,18 @@ module _ (H : Matrix) (S : Setting) (i : ℕ) (bs : List ℕ) where
 
 -- ---- what is read
 
--- the index at the front of its array
-pub index-front : (H : Matrix) (x : List ℕ) → take (indexSize H) x ≡ indexOf H → take (H .n + 1 + H .m * H .rho) x ≡ indexOf H
-unfolding indexSize
-index-front H x h =
-    let size : H .n + 1 + H .m * H .rho ≡ suc (H .n) + H .m * H .rho = omega arith in
-    ap (λ (k : ℕ). take k x) size ∙ h
+-- the tables at the front of their array
+pub tables-front : (H : Matrix) (S : Setting) (x : List ℕ) → take (tablesSize H) x ≡ tablesOf H S → take (2050 + 17 * H .n) x ≡ tablesOf H S
+unfolding tablesSize columnsSize
+tables-front H S x h = h
 
 -- a run that begins, by what was found
 pub opened-reply : (H : Matrix) {o p : Opening} → o ≡ p → {q : Opening} → o ≡ q → openedReply q H ≡ openedReply p H
 opened-reply H e q = ap (λ (x : Opening). openedReply x H) (sym q ∙ e)
 
--- and the array of the index
-pub opened-index : (H : Matrix) (bs x : List ℕ) {t : Reply} → t ≡ settingReply H bs → indexOpened (t .awaited) x ≡ indexAfter (theSetting H) bs x
-opened-index H bs x e = ap (λ (r : Reply). indexOpened (r .awaited) x) e
+-- and the array of the tables
+pub opened-tables : (H : Matrix) (bs x : List ℕ) {t : Reply} → t ≡ settingReply H bs → tablesOpened (t .awaited) x ≡ tablesAfter (theSetting H) bs x
+opened-tables H bs x e = ap (λ (r : Reply). tablesOpened (r .awaited) x) e
 
 -- the blocks that came may be printed
 pub countable : (H : Matrix) (S : Setting) {i k : ℕ} {bs out : List ℕ} → Decodable H S → AtOnce (H .n) i k → length bs ≤ k * (4 * H .n)
@@ -161,5 +160,5 @@ module _ {s t : Stage} (e : s ≡ t) (l x bs : List ℕ) {out : List ℕ} where
   asked-at p = rw e at p
 
   pub replied-at : {l′ x′ out′ : List ℕ} {a : Awaited} {w k : ℕ} → RepliedOver (replyTo (awaitedOf t l) bs) a w k out out′
-      → l′ ≡ listAfter (awaitedOf t l) bs l → x′ ≡ indexAfter (awaitedOf t l) bs x → Advanced (awaitedOf s l) bs l l′ x x′ a w k out out′
-  replied-at p q h = rw e (record { replied = p; list = q; index = h })
+      → l′ ≡ listAfter (awaitedOf t l) bs l → x′ ≡ tablesAfter (awaitedOf t l) bs x → Advanced (awaitedOf s l) bs l l′ x x′ a w k out out′
+  replied-at p q h = rw e (record { replied = p; list = q; tables = h })

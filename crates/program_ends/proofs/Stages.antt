@@ -1,7 +1,7 @@
 -- Laws of the stages: each leads to one that can be read, and the run comes to its end.
 --   wanted-fits     == what is wanted fits the input buffer
 --   readable-next   == what is awaited next can be read
---   held-next       == and its index is held
+--   held-next       == and its tables are held
 --   rank            == a bound on the stages that are left
 --   rank-falls      == it falls with each stage
 -- Assumes nothing.
@@ -17,8 +17,8 @@ use Rattle.counting.specs.Paper.Lists.{over}
 use Rattle.counting.proofs.Writes.{take-over}
 use Rattle.matrix.specs.Paper.Code.{Matrix}
 use Rattle.matrix.specs.Paper.Check.{sizesFit}
-use Rattle.matrix_index.specs.Paper.Index.{indexOf}
-use Rattle.matrix_index.proofs.Parts.{index-long}
+use Rattle.program_tables.specs.Tables.{tablesOf}
+use Rattle.program_tables.proofs.Tables.{tables-long}
 use Rattle.quantiser_levels.specs.Paper.Samples.{Setting}
 use Rattle.program_input.specs.Paper.Input.{matrixIn, settingIn}
 use Rattle.program_input.specs.Paper.Opening.{Opening, refusedBy, openWith, opening, openingVerdict}
@@ -27,7 +27,7 @@ use Rattle.program_turns.specs.Turns.{atOnce, bytesAtOnce, AtOnce}
 use Rattle.program_turns.proofs.Turns.{many}
 use Rattle.program_ends.specs.Stages.{Awaited, theSizes, theList, theSetting, blocksFrom, nothing, wanted, Reply, openedReply, sizesReply}
 use Rattle.program_ends.specs.Stages.{listReply, settingReply, blocksReply, replyTo}
-use Rattle.program_ends.specs.Replies.{Readable, IndexHeld, indexOpened, indexAfter}
+use Rattle.program_ends.specs.Replies.{Readable, TablesHeld, tablesOpened, tablesAfter}
 
 -- ---- the blocks that are read at once, of an accepted matrix
 
@@ -76,27 +76,27 @@ readable-next (blocksFrom H S i) bs r =
     by-test Readable (ltb (length bs) (bytesAtOnce (H .n) i)) (λ _. tt) (λ _. (r .0, some-blocks H S i r .numbers))
 readable-next nothing bs r = tt
 
--- ---- the index that it needs
+-- ---- the tables that it needs
 
--- the index that is written where the run opens is held
-held-opened : (a : Awaited) (x : List ℕ) → Readable a → IndexHeld a (indexOpened a x)
+-- the tables that are written where the run opens are held
+held-opened : (a : Awaited) (x : List ℕ) → Readable a → TablesHeld a (tablesOpened a x)
 held-opened theSizes x r = tt
 held-opened (theList H) x r = tt
 held-opened (theSetting H) x r = tt
 held-opened (blocksFrom H S i) x r =
-    ap (λ (k : ℕ). take k (over (indexOf H) x)) (sym (index-long H (r .0 .matrix .rows))) ∙ take-over (indexOf H) x
+    ap (λ (k : ℕ). take k (over (tablesOf H S) x)) (sym (tables-long H S)) ∙ take-over (tablesOf H S) x
 held-opened nothing x r = tt
 
--- what is awaited next has its index held
-pub held-next : (a : Awaited) (bs x : List ℕ) → Readable a → IndexHeld a x → IndexHeld (replyTo a bs .awaited) (indexAfter a bs x)
+-- what is awaited next has its tables held
+pub held-next : (a : Awaited) (bs x : List ℕ) → Readable a → TablesHeld a x → TablesHeld (replyTo a bs .awaited) (tablesAfter a bs x)
 unfolding sizesReply listReply blocksReply
 held-next theSizes bs x r h =
-    by-test (λ (t : Reply). IndexHeld (t .awaited) x) (ltb (length bs) 8) (λ _. tt)
-    (λ _. by-test (λ (t : Reply). IndexHeld (t .awaited) x) (sizesFit (matrixIn bs [])) (λ _. tt) (λ _. tt))
+    by-test (λ (t : Reply). TablesHeld (t .awaited) x) (ltb (length bs) 8) (λ _. tt)
+    (λ _. by-test (λ (t : Reply). TablesHeld (t .awaited) x) (sizesFit (matrixIn bs [])) (λ _. tt) (λ _. tt))
 held-next (theList H) bs x r h =
-    by-test (λ (t : Reply). IndexHeld (t .awaited) x) (ltb (length bs) (2 * (H .m * H .rho))) (λ _. tt) (λ _. tt)
+    by-test (λ (t : Reply). TablesHeld (t .awaited) x) (ltb (length bs) (2 * (H .m * H .rho))) (λ _. tt) (λ _. tt)
 held-next (theSetting H) bs x r h = held-opened (settingReply H bs .awaited) x (readable-next (theSetting H) bs r)
-held-next (blocksFrom H S i) bs x r h = by-test (λ (a : Awaited). IndexHeld a x) (ltb (length bs) (bytesAtOnce (H .n) i)) (λ _. tt) (λ _. h)
+held-next (blocksFrom H S i) bs x r h = by-test (λ (a : Awaited). TablesHeld a x) (ltb (length bs) (bytesAtOnce (H .n) i)) (λ _. tt) (λ _. h)
 held-next nothing bs x r h = tt
 
 -- ---- the run comes to its end

@@ -1,5 +1,5 @@
 // The stages of the run, as functions on slices: what the bytes that came say, what is awaited then, and how the run ends.
-// Rests on `program_turns`, `program_lines`, `program_input`, `matrix_index`, `byte_numbers` and `program_text`. Nothing here reads or writes.
+// Rests on `program_turns`, `program_lines`, `program_input`, `program_tables`, `byte_numbers` and `program_text`. Nothing here reads or writes.
 // Document 01: "Worked by hand", the paragraph on the program.
 use answers::Refusal;
 use matrix_check::Shape;
@@ -15,7 +15,7 @@ ghost use Rattle.quantiser_settings.specs.Paper.Settings.{settingOf};
 ghost use Rattle.matrix.specs.Paper.Check.{sizesFit};
 ghost use Rattle.program_ends.specs.Stages.{theList, theSetting, blocksFrom, firstReply, ends, sizesReply, listReply, settingReply, blocksReply};
 ghost use Rattle.program_turns.specs.Turns.{bytesAtOnce};
-ghost use Rattle.program_ends.specs.Replies.{awaitedOf, Asked, Replied, RepliedOver, listAfter, indexAfter, Advanced};
+ghost use Rattle.program_ends.specs.Replies.{awaitedOf, Asked, Replied, RepliedOver, listAfter, tablesAfter, Advanced};
 
 // What the run awaits: with the sizes that it has, the setting, and the number of the next block.
 pub enum Stage {
@@ -120,16 +120,16 @@ fn after_list(shape: Shape, list: &mut [u16], bytes: &[u8], out: &mut [u8]) -> N
     }
 }
 
-// The setting came, or the input ended. The index is built here, once for all blocks.
+// The setting came, or the input ended. The tables are built here, once for all blocks.
 fn after_setting(
     shape: Shape,
     list: &[u16],
-    index: &mut [u16],
+    tables: &mut [u64],
     bytes: &[u8],
     out: &mut [u8],
 ) -> Next
-    requires { ⌜ Asked (theSetting (matrixOf shape (take (shape .m * shape .rho) (now list)))) (now list) (now index) (now bytes) (now out) ⌝ }
-    ensures { λ r. ⌜ RepliedOver (settingReply (matrixOf shape (take (shape .m * shape .rho) (now (list .entry)))) (now (bytes .entry))) (awaitedOf (r .stage) (now (list .entry))) (r .want) (r .end) (now (out .entry)) (now (out .exit)) × (now (index .exit) ≡ indexAfter (theSetting (matrixOf shape (take (shape .m * shape .rho) (now (list .entry))))) (now (bytes .entry)) (now (index .entry))) ⌝ }
+    requires { ⌜ Asked (theSetting (matrixOf shape (take (shape .m * shape .rho) (now list)))) (now list) (now tables) (now bytes) (now out) ⌝ }
+    ensures { λ r. ⌜ RepliedOver (settingReply (matrixOf shape (take (shape .m * shape .rho) (now (list .entry)))) (now (bytes .entry))) (awaitedOf (r .stage) (now (list .entry))) (r .want) (r .end) (now (out .entry)) (now (out .exit)) × (now (tables .exit) ≡ tablesAfter (theSetting (matrixOf shape (take (shape .m * shape .rho) (now (list .entry))))) (now (bytes .entry)) (now (tables .entry))) ⌝ }
 {
     if bytes.len() < 7 {
         let end = program_text::put_short(out, 0);
@@ -139,7 +139,7 @@ fn after_setting(
     let opened = program_input::begin(shape, &list[..count], bytes);
     match opened {
         Opened::Ready(setting) => {
-            matrix_index::build(shape, &list[..count], index);
+            program_tables::build(shape, &list[..count], setting, tables);
             at_blocks(shape, setting, 0, 0)
         }
         Opened::Refused(f) => {
@@ -153,24 +153,24 @@ fn after_setting(
 fn after_blocks(
     shape: Shape,
     list: &[u16],
-    index: &[u16],
+    tables: &[u64],
     setting: Setting,
     number: u16,
     bytes: &[u8],
     out: &mut [u8],
 ) -> Next
-    requires { ⌜ Asked (blocksFrom (matrixOf shape (take (shape .m * shape .rho) (now list))) (settingOf setting) number) (now list) (now index) (now bytes) (now out) ⌝ }
+    requires { ⌜ Asked (blocksFrom (matrixOf shape (take (shape .m * shape .rho) (now list))) (settingOf setting) number) (now list) (now tables) (now bytes) (now out) ⌝ }
     ensures { λ r. ⌜ RepliedOver (blocksReply (matrixOf shape (take (shape .m * shape .rho) (now (list .entry)))) (settingOf setting) number (now (bytes .entry))) (awaitedOf (r .stage) (now (list .entry))) (r .want) (r .end) (now (out .entry)) (now (out .exit)) ⌝ }
 {
     let n = shape.n as usize;
     let some = program_turns::at_once(n, number);
     let want = some * (4 * n);
     let count = entries(shape);
-    let size = n + 1 + count;
+    let size = program_tables::COLUMNS + 17 * n;
     let end = program_lines::chunk(
         shape,
         &list[..count],
-        &index[..size],
+        &tables[..size],
         setting,
         number,
         bytes,
@@ -184,16 +184,16 @@ fn after_blocks(
 }
 
 // The bytes came that a stage awaits, or fewer where the input ended.
-fn advance(stage: Stage, list: &mut [u16], index: &mut [u16], bytes: &[u8], out: &mut [u8]) -> Next
-    requires { ⌜ Asked (awaitedOf stage (now list)) (now list) (now index) (now bytes) (now out) ⌝ }
-    ensures { λ r. ⌜ Advanced (awaitedOf stage (now (list .entry))) (now (bytes .entry)) (now (list .entry)) (now (list .exit)) (now (index .entry)) (now (index .exit)) (awaitedOf (r .stage) (now (list .exit))) (r .want) (r .end) (now (out .entry)) (now (out .exit)) ⌝ }
+fn advance(stage: Stage, list: &mut [u16], tables: &mut [u64], bytes: &[u8], out: &mut [u8]) -> Next
+    requires { ⌜ Asked (awaitedOf stage (now list)) (now list) (now tables) (now bytes) (now out) ⌝ }
+    ensures { λ r. ⌜ Advanced (awaitedOf stage (now (list .entry))) (now (bytes .entry)) (now (list .entry)) (now (list .exit)) (now (tables .entry)) (now (tables .exit)) (awaitedOf (r .stage) (now (list .exit))) (r .want) (r .end) (now (out .entry)) (now (out .exit)) ⌝ }
 {
     match stage {
         Stage::AtSizes => after_sizes(bytes, out),
         Stage::AtList(shape) => after_list(shape, list, bytes, out),
-        Stage::AtSetting(shape) => after_setting(shape, list, index, bytes, out),
+        Stage::AtSetting(shape) => after_setting(shape, list, tables, bytes, out),
         Stage::AtBlocks(shape, setting, number) => {
-            after_blocks(shape, list, index, setting, number, bytes, out)
+            after_blocks(shape, list, tables, setting, number, bytes, out)
         }
         Stage::AtEnd => run_over(out, 0),
     }
@@ -203,13 +203,13 @@ fn advance(stage: Stage, list: &mut [u16], index: &mut [u16], bytes: &[u8], out:
 pub fn reply_to(
     stage: Stage,
     list: &mut [u16],
-    index: &mut [u16],
+    tables: &mut [u64],
     input: &[u8],
     got: usize,
     out: &mut [u8],
 ) -> Next
-    requires { ⌜ (got ≤ length (now input)) × Asked (awaitedOf stage (now list)) (now list) (now index) (take got (now input)) (now out) ⌝ }
-    ensures { λ r. ⌜ Advanced (awaitedOf stage (now (list .entry))) (take got (now (input .entry))) (now (list .entry)) (now (list .exit)) (now (index .entry)) (now (index .exit)) (awaitedOf (r .stage) (now (list .exit))) (r .want) (r .end) (now (out .entry)) (now (out .exit)) ⌝ }
+    requires { ⌜ (got ≤ length (now input)) × Asked (awaitedOf stage (now list)) (now list) (now tables) (take got (now input)) (now out) ⌝ }
+    ensures { λ r. ⌜ Advanced (awaitedOf stage (now (list .entry))) (take got (now (input .entry))) (now (list .entry)) (now (list .exit)) (now (tables .entry)) (now (tables .exit)) (awaitedOf (r .stage) (now (list .exit))) (r .want) (r .end) (now (out .entry)) (now (out .exit)) ⌝ }
 {
-    advance(stage, list, index, &input[..got], out)
+    advance(stage, list, tables, &input[..got], out)
 }

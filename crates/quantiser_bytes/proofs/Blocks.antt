@@ -1,4 +1,5 @@
 -- Laws of samples that are lent as bytes.
+--   place-of        == the place of the first sample that is not finite, by the bytes
 --   samples-n       == 4 * n bytes are n samples
 --   sample-refuses  == refusal 8 at the place that was found
 --   samples-pass    == where no place was found nothing is refused
@@ -25,7 +26,7 @@ use Rattle.byte_numbers.proofs.Floats.{length-samples}
 use Rattle.quantiser_levels.specs.Paper.Samples.{notFinite, firstNotFinite}
 
 -- refusal 8's place by the bytes
-place-of : (bs : List ℕ) → first (notFiniteIn bs) (length bs / 4) ≡ firstNotFinite (samplesIn bs)
+pub place-of : (bs : List ℕ) → first (notFiniteIn bs) (length bs / 4) ≡ firstNotFinite (samplesIn bs)
 unfolding samplesIn notFinite notFiniteIn
 place-of bs =
     let each : (i : ℕ) → i < length bs / 4 → notFiniteIn bs i ≡ notFinite (samplesIn bs) i =

@@ -1,6 +1,8 @@
 -- Laws of lists of places: one place more is looked at, and a sum over a list of places.
 --   places-none   == no place is looked at yet
 --   places-step   == one place more is looked at
+--   places-pass   == one place more that is not counted needs no writing
+--   places-skip   == nor do several
 --   listed-none   == no place is written over the list yet
 --   listed-step   == one place more is written over it
 --   listed-cong   == places written by one test are written so by a test that agrees with it below m
@@ -9,7 +11,7 @@
 use mathlib.Core.Path.{_≡_, refl, sym, ap, ap₂, _∙_}
 use mathlib.Core.List.{List}
 use Prim.Native.Nat.{ℕ, zero, suc, _+_, _*_, _<_}
-use native.Mathlib.Nat.{add-zero}
+use native.Mathlib.Nat.{add-zero, add-suc}
 use native.Mathlib.Numerals.{add-one}
 use native.Mathlib.Decide.{ℕ-discrete}
 use native.Mathlib.Omega.{arith}
@@ -80,6 +82,29 @@ module _ (f : ℕ → ℕ) (i : ℕ) (l : List ℕ) (t : ℕ) (p : Places f i l 
   places-step zero e h = left-out (sym e)
   places-step (suc zero) e h = taken-in (sym e)
   places-step (suc (suc x)) e h = absurd (omega arith)
+
+-- ---- places that are not counted
+
+-- one of them needs no writing
+pub places-pass : (f : ℕ → ℕ) (i : ℕ) (l : List ℕ) (t : ℕ) → Places f i l t → f i ≡ 0 → Places f (suc i) l t
+unfolding sumBelow
+places-pass f i l t p e =
+    record {
+      long = p .long;
+      few = omega (arith, p .few);
+      below = λ q h. omega (arith, p .below q h);
+      each = λ x h. elim (ℕ-discrete x i) [
+        | yes g ↦ rw g (sum-zero t (λ q k. same-ne (at l q) i (λ s. omega (arith, s, p .below q k))) ∙ sym e)
+        | no ne ↦ p .each x (omega arith)
+      ];
+      total = omega (arith, p .total);
+    }
+
+-- nor do several
+pub places-skip : (f : ℕ → ℕ) (i k : ℕ) (l : List ℕ) (t : ℕ) → Places f i l t → ((d : ℕ) → d < k → f (i + d) ≡ 0) → Places f (i + k) l t
+places-skip f i zero l t p e = rw (add-zero i) p
+places-skip f i (suc k) l t p e =
+    rw (add-suc i k) (places-pass f (i + k) l t (places-skip f i k l t p (λ d h. e d (omega arith))) (e k (omega arith)))
 
 -- ---- the list with all its cells
 

@@ -8,6 +8,7 @@
 --   difference-is     == the difference of two bits as it is computed
 --   difference-bit    == it is a bit
 --   bit-below         == a bit of a word
+--   bits-fewer        == bits at the first places are bits at fewer of them
 --   odd-none          == no parity is counted yet
 --   odd-step          == one parity more is counted
 --   odd-most          == no more are odd than there are
@@ -92,6 +93,11 @@ difference-bit a c j = omega (arith, differ-le (a j) (c j))
 pub bit-below : (n : ℕ) (z : List ℕ) (j : ℕ) → BitsBelow n z → j < n → at z j < 2
 unfolding BitsBelow
 bit-below n z j w l = w j l
+
+-- bits at the first places are bits at fewer of them
+pub bits-fewer : (n k : ℕ) (z : List ℕ) → BitsBelow n z → k ≤ n → BitsBelow k z
+unfolding BitsBelow
+bits-fewer n k z w h j l = w j (omega arith)
 
 -- ---- parities counted
 

@@ -3,20 +3,22 @@
 --   BitsBelow n z            == an array with bits at its first n places
 --   ParitiesTurned f p p′    == the parity at each place i is turned over f i times
 --   differing a b j          == 1 where the words a and b differ at place j, else 0
+--   numberFrom z p k         == the number that k bytes of z from place p on make, the first the lowest
+--   FlipsListed f n l l′ t   == l becomes l′, whose first t cells are the places below n at which f is 1; the cells past the next one stay
 --   columnRows x n j i       == how often row i stands among the rows of column j in the index x
 --   listedRows x n l t i     == the same in the columns that the first t places of l are
 --   Columns x n              == the index x holds a part for each column below n
 --   Parities H z p           == p holds the parity of each check of the word z
 --   Renewed H z p p′         == p becomes p′, the parities of the word z; the cells past the checks stay
 -- Assumes nothing.
-use Prim.Native.Nat.{ℕ, _+_, _-_, _%_, _≤_, _<_}
+use Prim.Native.Nat.{ℕ, zero, suc, _+_, _*_, _-_, _%_, _≤_, _<_}
 use mathlib.Core.Path.{_≡_}
 use mathlib.Core.List.{List}
 use lib.ListN.{length}
 use Rattle.counting.specs.Paper.Sum.{sumBelow, unequal}
 use Rattle.counting.specs.Places.{at, among}
 use Rattle.matrix.specs.Paper.Code.{Matrix, fails}
-use Rattle.syndrome.specs.Places.{Part}
+use Rattle.syndrome.specs.Places.{Part, Places}
 
 pub record Bits (p : List ℕ) : Type 0 where
   pub long : length p ≡ 1023
@@ -31,6 +33,15 @@ pub record ParitiesTurned (f : ℕ → ℕ) (p p′ : List ℕ) : Type 0 where
 
 unfoldable pub differing : (ℕ → ℕ) → (ℕ → ℕ) → ℕ → ℕ
 differing a b j = unequal (a j) (b j)
+
+unfoldable pub numberFrom : List ℕ → ℕ → ℕ → ℕ
+numberFrom z p zero = 0
+numberFrom z p (suc k) = numberFrom z (p + 1) k * 256 + at z p
+
+-- the cell behind the places may hold one that was looked at and not counted
+pub record FlipsListed (f : ℕ → ℕ) (n : ℕ) (l l′ : List ℕ) (t : ℕ) : Type 0 where
+  pub places : Places f n l′ t
+  pub rest : (q : ℕ) → t < q → at l′ q ≡ at l q
 
 unfoldable pub columnRows : List ℕ → ℕ → ℕ → ℕ → ℕ
 columnRows x n j i = among x (n + 1 + at x j) (at x (j + 1) - at x j) i

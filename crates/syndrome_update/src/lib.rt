@@ -1,28 +1,88 @@
 // The parities of the checks of a word that follows another one: those of the flipped bits' checks are turned over, by the index.
 // Rests on `matrix_index` and `syndrome`. Document 01: "Iterative voting", steps 2 and 4. Document 02: card 1.
-ghost use Prim.Native.Nat.{ℕ, _≤_, _<_};
+ghost use Prim.Native.Nat.{ℕ, _+_, _≤_, _<_};
 ghost use mathlib.Core.Path.{_≡_};
 ghost use lib.ListN.{length};
 ghost use Rattle.counting.specs.Paper.Sum.{sumBelow};
 ghost use Rattle.counting.specs.Places.{at, among};
-ghost use Rattle.syndrome.specs.Places.{Part, PlacesListed};
-ghost use Rattle.syndrome_update.specs.Parities.{Bits, BitsBelow, ParitiesTurned, differing, columnRows, listedRows, Columns};
+ghost use Rattle.syndrome.specs.Places.{Part, Places};
+ghost use Rattle.syndrome_update.specs.Parities.{Bits, BitsBelow, ParitiesTurned, differing, numberFrom, FlipsListed, columnRows, listedRows, Columns};
 
-// Lists the places below n at which two words differ at the front of `places`, in their order, and says how many they are.
-// Each place is written and then counted by the difference, so that no branch is guessed wrong.
-// Only this repository's crates call it, with words of an accepted matrix.
-pub fn list_flips(n: usize, before: &[u8; 1023], bits: &[u8; 1023], places: &mut [u16]) -> usize
-    requires { ⌜ (n ≤ 1023) × BitsBelow n (now before) × BitsBelow n (now bits) × (length (now places) ≡ 1023) ⌝ }
-    ensures { λ r. ⌜ PlacesListed (differing (at (now (before .entry))) (at (now (bits .entry)))) n (now (places .entry)) (now (places .exit)) r ⌝ }
+// A bit as a number of 64 bits.
+fn wide(x: u8) -> u64
+    ensures { λ r. ⌜ r ≡ x ⌝ }
 {
-    let mut t = 0;
-    let mut j = 0;
-    while j < n {
+    x as u64
+}
+
+// The number that eight bits of a word from place p on make, a byte each, the first the lowest: compiled, that is one load of 64 bits.
+fn eight(z: &[u8; 1023], p: usize) -> u64
+    requires { ⌜ (p + 8 ≤ 1023) × BitsBelow (p + 8) (now z) ⌝ }
+    ensures { λ r. ⌜ r ≡ numberFrom (now (z .entry)) p 8 ⌝ }
+{
+    let mut x: u64 = 0;
+    let mut k = 8;
+    while k > 0 {
+        k -= 1;
+        x = x * 256 + wide(z[p + k]);
+    }
+    x
+}
+
+// Lists the places from `from` to before `to` at which two words differ behind the first t, which are those before `from`; says how many are listed then.
+// Each place is written and then counted by the difference, so that no branch is guessed wrong.
+fn list_part(
+    from: usize,
+    to: usize,
+    before: &[u8; 1023],
+    bits: &[u8; 1023],
+    places: &mut [u16],
+    t: usize,
+) -> usize
+    requires { ⌜ (from ≤ to) × (to ≤ 1023) × BitsBelow to (now before) × BitsBelow to (now bits) × Places (differing (at (now before)) (at (now bits))) from (now places) t ⌝ }
+    ensures { λ r. ⌜ FlipsListed (differing (at (now (before .entry))) (at (now (bits .entry)))) to (now (places .entry)) (now (places .exit)) r ⌝ }
+{
+    let mut t = t;
+    let mut j = from;
+    while j < to {
         places[t] = j as u16;
         t += (before[j] ^ bits[j]) as usize;
         j += 1;
     }
     t
+}
+
+// The same for eight places from j on: where the words agree in all of them, nothing is written.
+fn list_eight(
+    j: usize,
+    before: &[u8; 1023],
+    bits: &[u8; 1023],
+    places: &mut [u16],
+    t: usize,
+) -> usize
+    requires { ⌜ (j + 8 ≤ 1023) × BitsBelow (j + 8) (now before) × BitsBelow (j + 8) (now bits) × Places (differing (at (now before)) (at (now bits))) j (now places) t ⌝ }
+    ensures { λ r. ⌜ FlipsListed (differing (at (now (before .entry))) (at (now (bits .entry)))) (j + 8) (now (places .entry)) (now (places .exit)) r ⌝ }
+{
+    if eight(before, j) == eight(bits, j) {
+        return t;
+    }
+    list_part(j, j + 8, before, bits, places, t)
+}
+
+// Lists the places below n at which two words differ at the front of `places`, each once, and says how many they are.
+// Eight places in which the words agree are passed over at once. What the cell behind the places listed holds does not matter; those past it stay.
+// Only this repository's crates call it, with words of an accepted matrix.
+pub fn list_flips(n: usize, before: &[u8; 1023], bits: &[u8; 1023], places: &mut [u16]) -> usize
+    requires { ⌜ (n ≤ 1023) × BitsBelow n (now before) × BitsBelow n (now bits) × (length (now places) ≡ 1023) ⌝ }
+    ensures { λ r. ⌜ FlipsListed (differing (at (now (before .entry))) (at (now (bits .entry)))) n (now (places .entry)) (now (places .exit)) r ⌝ }
+{
+    let mut t = 0;
+    let mut j = 0;
+    while 8 <= n - j {
+        t = list_eight(j, before, bits, places, t);
+        j += 8;
+    }
+    list_part(j, n, before, bits, places, t)
 }
 
 // Turns over the parity at each of `count` row numbers of the index.

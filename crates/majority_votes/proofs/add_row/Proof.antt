@@ -1,10 +1,9 @@
 -- `majority_votes::add_row`. The loop's invariant: a vote more at each of the first `k` column numbers of the part.
-use Prim.Native.Nat.{ℕ, _+_, _-_, _≤_}
-use native.Mathlib.Nat.{le-antisymm}
+use Prim.Native.Nat.{_-_, _≤_}
 use native.Mathlib.Omega.{arith}
-use Rattle.counting.specs.Places.{at, among}
+use Rattle.counting.specs.Places.{among}
 use Rattle.majority_votes.specs.Tallies.{More}
-use Rattle.majority_votes.proofs.Sums.{among-none, among-next, among-step}
+use Rattle.majority_votes.proofs.Sums.{among-none, part-within, some-next, some-step, some-rest}
 use Rattle.majority_votes.proofs.add_row.Statement.{statement}
 use Rattle.majority_votes.proofs.add_row.Tie as tie
 
@@ -15,33 +14,24 @@ abbrev μ-loop : tie.MeasureT-loop
 μ-loop list from count votes₀ k₀ votes k = count - k
 
 loop-holds : tie.Need-loop-holds Inv-loop μ-loop
-loop-holds c = (omega arith, among-none (c .args .list .now) (c .args .from) (c .args .votes .now) (c .pre .1 .long))
+loop-holds c =
+    let s = c .before in
+    (omega arith, among-none (s .args .list .now) (s .args .from) (s .args .votes .now) (s .pre .1 .long))
 
-add-j : tie.Need-add-j Inv-loop μ-loop
-add-j c = omega arith
+sub-loop : tie.Need-sub-loop Inv-loop μ-loop
+sub-loop c = omega arith
 
-mul-j : tie.Need-mul-j Inv-loop μ-loop
-mul-j c = omega arith
+add-add-some : tie.Need-add-add-some Inv-loop μ-loop
+add-add-some c = omega (arith, c .before .before .before .pre .0 .short)
 
-shared-slice-read-j : tie.Need-shared-slice-read-j Inv-loop μ-loop
-shared-slice-read-j c = omega arith
-
-cast-j : tie.Need-cast-j Inv-loop μ-loop
-cast-j c = omega (arith, c .before .before .before .pre .0 .below (c .before .before .loop .k) (omega arith))
-
-element-copy-out-votes : tie.Need-element-copy-out-votes Inv-loop μ-loop
-element-copy-out-votes c = c .before .before .before .pre .0 .below (c .before .before .loop .k) (omega arith)
-
-add-votes : tie.Need-add-votes Inv-loop μ-loop
-add-votes c =
+add-some-requires : tie.Need-add-some-requires Inv-loop μ-loop
+add-some-requires c κs =
     let s = c .before .before .before .before in
-    let o = c .before .before .before .loop in
-    let a = s .args in
-    let j : ℕ = at (a .list .now) (a .from + o .k) in
-    omega (arith, o .inv .1 .each j, s .pre .1 .fits j, among-next (a .list .now) (a .from) (a .count) (o .k) (omega arith))
-
-element-write-votes : tie.Need-element-write-votes Inv-loop μ-loop
-element-write-votes c = c .before .before .before .before .pre .0 .below (c .before .before .before .loop .k) (omega arith)
+    let o = c .before .before .loop in
+    let a = s .args in (
+      part-within (a .list .now) (a .from) (a .count) (o .k) 8 (omega arith) (s .pre .0),
+      some-next (a .list .now) (a .from) (a .count) (o .k) 8 (a .votes .now) (o .votes) (omega arith) (s .pre .1) (o .inv .1),
+    )
 
 add-k : tie.Need-add-k Inv-loop μ-loop
 add-k c = omega arith
@@ -51,13 +41,33 @@ loop-less c = omega arith
 
 loop-again : tie.Need-loop-again Inv-loop μ-loop
 loop-again c =
+    let a = c .before .before .before .before .before .args in
+    let o = c .before .before .before .loop in (
+      omega arith,
+      some-step (a .list .now) (a .from) (o .k) 8 (a .votes .now) (o .votes) (c .add-some .last .1 .1 .1 .0) (o .inv .1) (c .add-some .ensures),
+    )
+
+add-add-some-2 : tie.Need-add-add-some-2 Inv-loop μ-loop
+add-add-some-2 c = omega (arith, c .before .before .before .pre .0 .short)
+
+sub-add-some : tie.Need-sub-add-some Inv-loop μ-loop
+sub-add-some c = omega arith
+
+add-some-requires-2 : tie.Need-add-some-requires-2 Inv-loop μ-loop
+add-some-requires-2 c κs =
     let s = c .before .before .before .before in
-    let o = c .before .before .before .loop in
-    let a = s .args in
-    (omega arith, among-step (a .list .now) (a .from) (o .k) (a .votes .now) (o .votes) (s .pre .0 .below (o .k) (omega arith)) (o .inv .1))
+    let o = c .before .before .loop in
+    let a = s .args in (
+      part-within (a .list .now) (a .from) (a .count) (o .k) (a .count - o .k) (omega arith) (s .pre .0),
+      some-next (a .list .now) (a .from) (a .count) (o .k) (a .count - o .k) (a .votes .now) (o .votes) (omega arith) (s .pre .1) (o .inv .1),
+    )
 
 returns : tie.Need-returns Inv-loop μ-loop
-returns c = rw (le-antisymm (c .before .loop .inv .0) (omega arith)) at (c .before .loop .inv .1)
+returns c =
+    let a = c .before .before .before .before .before .args in
+    let o = c .before .before .before .loop in
+    let v = c .add-some2 .last .1 .1 .1 .0 in
+    some-rest (a .list .now) (a .from) (a .count) (o .k) (a .votes .now) (o .votes) v (o .inv .0) (o .inv .1) (c .add-some2 .ensures)
 
 pub add-row-spec : {M : Type 1} → statement M
 add-row-spec =
@@ -66,14 +76,13 @@ add-row-spec =
     Inv-loop
     μ-loop
     loop-holds
-    add-j
-    mul-j
-    shared-slice-read-j
-    cast-j
-    element-copy-out-votes
-    add-votes
-    element-write-votes
+    sub-loop
+    add-add-some
+    add-some-requires
     add-k
     loop-less
     loop-again
+    add-add-some-2
+    sub-add-some
+    add-some-requires-2
     returns)

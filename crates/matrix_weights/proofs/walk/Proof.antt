@@ -1,99 +1,99 @@
--- `matrix_check::walk` meets its contract. The loop's invariant: no entry passed is bad, and the weights count those passed. Assumes nothing.
+-- `matrix_weights::walk` meets its contract. The loop's invariant: p begins a row or ends the list, no entry before it is bad, and the weights count those.
+-- Assumes nothing.
 use mathlib.Core.Path.{_≡_, sym, ap, _∙_}
 use mathlib.Core.Bool.{false}
 use Prim.Native.Nat.{ℕ, _+_, _-_, _%_, _≤_, _<_}
-use native.Mathlib.Nat.{zero-mod, mod-lt, mod-add-mod}
+use native.Mathlib.Nat.{zero-mod, add-mod-right}
 use native.Mathlib.Omega.{arith}
-use borrow.Author.Count.{below-more}
 use lib.ListN.{length}
-use Rattle.counting.proofs.Searches.{first-none, first-at}
+use Rattle.counting.proofs.Searches.{first-none, first-le}
 use Rattle.matrix.specs.Paper.Check.{badEntry}
+use Rattle.matrix.specs.Paper.Code.{Matrix}
 use Rattle.matrix.specs.Paper.Shapes.{matrixOf}
 use Rattle.matrix.specs.Tallies.{Tally}
 use Rattle.matrix.proofs.Ordered.{few}
-use Rattle.matrix_weights.specs.Weights.{listAt}
-use Rattle.matrix_weights.proofs.Weights.{good-below, tally-next, tally-room}
+use Rattle.matrix_weights.specs.Weights.{listAt, badInRow}
+use Rattle.matrix_weights.proofs.Weights.{row-inside, clear-before, row-first}
 use Rattle.matrix_weights.proofs.walk.Statement.{statement}
 use Rattle.matrix_weights.proofs.walk.Tie as tie
 
 abbrev Inv-loop : tie.InvT-loop
-Inv-loop shape list weights₀ rho p₀ k₀ weights p k =
-    (p ≤ length list) × (k ≡ p % rho) × Tally (listAt (matrixOf shape list)) p weights
+Inv-loop shape list weights₀ rho p₀ weights p =
+    (p ≤ length list) × (p % rho ≡ 0) × Tally (listAt (matrixOf shape list)) p weights
     × ((x : ℕ) → x < p → badEntry (matrixOf shape list) x ≡ false)
 
 abbrev μ-loop : tie.MeasureT-loop
-μ-loop shape list weights₀ rho p₀ k₀ weights p k = length list - p
+μ-loop shape list weights₀ rho p₀ weights p = length list - p
+
+-- the matrix that is walked
+abbrev lent : tie.Start Inv-loop μ-loop → Matrix
+lent b = matrixOf (b .args .shape) (b .args .list .now)
+
+-- the row that begins at p ends within the list
+inside : (c : tie.In-loop Inv-loop μ-loop) → let H = lent (c .before .before .before .before) in c .before .loop .p + H .rho ≤ length (H .list)
+inside c =
+    let b = c .before .before .before .before in
+    let l = c .before .loop in
+    row-inside (lent b) (l .p) (l .inv .1) (b .pre .0 .whole) (omega (arith, b .pre .0 .sizes .rho-least)) (omega arith)
+
+-- no more than the row is passed
+row-most : (c : tie.After-walk-row Inv-loop μ-loop) → c .walk-row .result ≤ c .before .before .before .before .before .before .args .shape .rho
+row-most c =
+    let a = c .before .before .before .before .before .before .args in
+    omega (arith, c .walk-row .ensures .place, first-le (badInRow (a .shape .n) (a .list .now) (c .before .before .before .loop .p)) (a .shape .rho))
 
 cast-rho : tie.Need-cast-rho Inv-loop μ-loop
 cast-rho c = omega arith
 
 loop-holds : tie.Need-loop-holds Inv-loop μ-loop
-loop-holds c = (omega arith, sym (zero-mod (c .before .before .args .shape .rho)), c .before .before .pre .1, λ x l. absurd (omega arith))
+loop-holds c = (omega arith, zero-mod (c .before .before .args .shape .rho), c .before .before .pre .1, λ x l. absurd (omega arith))
 
-bad-entry-requires : tie.Need-bad-entry-requires Inv-loop μ-loop
-bad-entry-requires c κs = (omega arith, c .before .loop .inv .1)
+walk-row-requires : tie.Need-walk-row-requires Inv-loop μ-loop
+walk-row-requires c κs =
+    let b = c .before .before .before .before .before in
+    record {
+      columns = b .pre .0 .sizes .n-most;
+      some = omega (arith, b .pre .0 .sizes .rho-least);
+      inside = inside (c .before);
+      room = omega (arith, inside (c .before), few (b .pre .0));
+      tallied = c .before .before .loop .inv .2;
+    }
+
+add-p : tie.Need-add-p Inv-loop μ-loop
+add-p c = omega (arith, inside (c .before .before), row-most c, few (c .before .before .before .before .before .before .pre .0))
 
 returns : tie.Need-returns Inv-loop μ-loop
 returns c =
-    let a = c .before .before .before .before .before .before .args in
-    let H = matrixOf (a .shape) (a .list .now) in
-    let l = c .before .before .before .loop in
+    let H = lent (c .before .before .before .before .before .before .before) in
+    let l = c .before .before .before .before .loop in
+    let w = c .before .walk-row in
     record {
-      place = sym (first-at (badEntry H) (length (a .list .now)) (l .p) (omega arith) (l .inv .3) (sym (c .before .bad-entry .ensures) ∙ c .if1 .taken));
-      tallied = l .inv .2;
+      place = row-first H (l .p) (l .inv .1) (w .result) (w .ensures .place) (l .inv .3) (c .if1 .taken) (inside (c .before .before .before));
+      tallied = w .ensures .tallied;
     }
 
-mul-count : tie.Need-mul-count Inv-loop μ-loop
-mul-count c = omega arith
-
-shared-slice-read-count : tie.Need-shared-slice-read-count Inv-loop μ-loop
-shared-slice-read-count c = omega arith
-
-cast-count : tie.Need-cast-count Inv-loop μ-loop
-cast-count c = omega (arith, c .shared-slice-known2 .given (c .before .before .before .before .before .loop .p))
-
-count-requires : tie.Need-count-requires Inv-loop μ-loop
-count-requires c κs =
-    let b = c .before .before .before .before .before .before .before .before in
-    let H = matrixOf (b .args .shape) (b .args .list .now) in
-    let l = c .before .before .before .before .before .loop in
-    let h : listAt H (l .p) < b .args .shape .n = good-below H (l .p) (sym (c .before .before .before .bad-entry .ensures) ∙ c .before .before .if1 .left) in
-    let low : listAt H (l .p) < 1023 = omega (arith, h, b .pre .0 .sizes .n-most) in
-    (omega arith, tally-room H (l .inv .2) (omega (arith, few (b .pre .0), l .inv .0)) _ (omega arith))
-
-next-place-requires : tie.Need-next-place-requires Inv-loop μ-loop
-next-place-requires c κs =
-    let l = c .before .before .before .before .before .before .loop in
-    let b = c .before .before .before .before .before .before .before .before .before in
-    omega (arith, l .inv .1, mod-lt (l .p) {m = b .args .shape .rho} (omega (arith, b .pre .0 .sizes .rho-least)))
-
-add-p : tie.Need-add-p Inv-loop μ-loop
-add-p c = omega arith
-
 loop-less : tie.Need-loop-less Inv-loop μ-loop
-loop-less c = omega arith
+loop-less c = omega (arith, c .if1 .left, c .before .before .before .before .before .before .before .pre .0 .sizes .rho-least)
 
 loop-again : tie.Need-loop-again Inv-loop μ-loop
 loop-again c =
-    let b = c .before .before .before .before .before .before .before .before .before .before in
-    let H = matrixOf (b .args .shape) (b .args .list .now) in
-    let l = c .before .before .before .before .before .before .before .loop in
-    let good : badEntry H (l .p) ≡ false =
-    sym (c .before .before .before .before .before .bad-entry .ensures) ∙ c .before .before .before .before .if1 .left in (
-      omega arith,
-      c .next-place .ensures ∙ ap (λ (x : ℕ). (x + 1) % b .args .shape .rho) (l .inv .1) ∙ mod-add-mod (l .p) (b .args .shape .rho) 1,
-      tally-next H (l .inv .2) (c .before .count .ensures) (omega arith) (omega (arith, good-below H (l .p) good, b .pre .0 .sizes .n-most)),
-      below-more (λ (x : ℕ). badEntry H x ≡ false) (l .p) (l .inv .3) good,
+    let H = lent (c .before .before .before .before .before .before .before) in
+    let l = c .before .before .before .before .loop in
+    let w = c .before .walk-row in
+    let whole : w .result ≡ H .rho = omega (arith, row-most (c .before), c .if1 .left) in (
+      omega (arith, whole, inside (c .before .before .before)),
+      ap (λ (k : ℕ). (l .p + k) % H .rho) whole ∙ add-mod-right (l .p) (H .rho) ∙ l .inv .1,
+      w .ensures .tallied,
+      clear-before H (l .p) (l .inv .1) (w .result) (w .ensures .place) (l .inv .3),
     )
 
 returns-2 : tie.Need-returns-2 Inv-loop μ-loop
 returns-2 c =
-    let a = c .before .before .before .before .args in
-    let H = matrixOf (a .shape) (a .list .now) in
+    let H = lent (c .before .before .before .before) in
     let l = c .before .loop in
-    let z : l .p ≡ length (a .list .now) = omega arith in
+    let whole : l .p ≡ length (H .list) = omega arith in
     record {
-      place = z ∙ sym (first-none (badEntry H) (length (a .list .now)) (λ x h. l .inv .3 x (omega arith)));
+      place = whole ∙ sym (first-none (badEntry H) (length (H .list)) (λ x h. l .inv .3 x (omega arith)));
       tallied = l .inv .2;
     }
 
@@ -105,14 +105,9 @@ walk-spec =
     μ-loop
     cast-rho
     loop-holds
-    bad-entry-requires
-    returns
-    mul-count
-    shared-slice-read-count
-    cast-count
-    count-requires
-    next-place-requires
+    walk-row-requires
     add-p
+    returns
     loop-less
     loop-again
     returns-2)

@@ -19,7 +19,7 @@ reply-to-requires c κs =
         readable = s .pre .readable;
         came = omega (arith, r .read .ensures .0, s .pre .want, length-take (r .read .result) (r .read .last .0));
         list = s .pre .list;
-        index = s .pre .index;
+        tables = s .pre .tables;
         held = s .pre .held;
         room = s .pre .room;
       },

@@ -8,11 +8,11 @@ use Rattle.program.proofs.until_done.Statement.{statement}
 use Rattle.program.proofs.until_done.Tie as tie
 
 abbrev Inv-loop : tie.InvT-loop
-Inv-loop list₀ index₀ input₀ out₀ stage₀ want₀ list index input out stage want =
-    PieceLent (awaitedOf stage list) want list index input out × Replies (awaitedOf stage₀ list₀) (awaitedOf stage list)
+Inv-loop list₀ tables₀ input₀ out₀ stage₀ want₀ list tables input out stage want =
+    PieceLent (awaitedOf stage list) want list tables input out × Replies (awaitedOf stage₀ list₀) (awaitedOf stage list)
 
 abbrev μ-loop : tie.MeasureT-loop
-μ-loop list₀ index₀ input₀ out₀ stage₀ want₀ list index input out stage want = rank (awaitedOf stage list)
+μ-loop list₀ tables₀ input₀ out₀ stage₀ want₀ list tables input out stage want = rank (awaitedOf stage list)
 
 loop-holds : tie.Need-loop-holds Inv-loop μ-loop
 loop-holds c = (c .before .before .before .before .pre, none)

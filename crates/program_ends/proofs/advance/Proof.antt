@@ -18,7 +18,7 @@ after-list-requires : tie.Need-after-list-requires
 after-list-requires c κs =
     let g = c .before .before .before in
     let s = g .before .before .before .before .before .before in
-    let q = asked-at (g .stage .given .1) _ (s .args .index .now) _ (s .pre) in
+    let q = asked-at (g .stage .given .1) _ (s .args .tables .now) _ (s .pre) in
     (q .readable, q .came, q .list, q .room)
 
 enum-known-stage-2 : tie.Need-enum-known-stage-2
@@ -50,7 +50,7 @@ returns : tie.Need-returns
 returns c =
     let g = c .before .before .before .before in
     let s = g .before .before .before .before .before .before in
-    replied-at (g .enum-told .given .1) (s .args .list .now) (s .args .index .now) (s .args .bytes .now)
+    replied-at (g .enum-told .given .1) (s .args .list .now) (s .args .tables .now) (s .args .bytes .now)
     (c .before .before .after-sizes .ensures _) refl refl
 
 same-length-2 : tie.Need-same-length-2
@@ -64,7 +64,7 @@ returns-2 c =
     let g = c .before .before .before .before .before .before .before .before in
     let s = g .before .before .before .before .before .before in
     let l = c .before .before .before .before .after-list .ensures in
-    replied-at (g .stage .given .1) (s .args .list .now) (s .args .index .now) (s .args .bytes .now)
+    replied-at (g .stage .given .1) (s .args .list .now) (s .args .tables .now) (s .args .bytes .now)
     (l .0) (l .1) refl
 
 same-length-4 : tie.Need-same-length-4
@@ -81,7 +81,7 @@ returns-3 c =
     let g = c .before .before .before .before .before .before .before .before .before in
     let s = g .before .before .before .before .before .before in
     let l = c .before .before .before .before .after-setting .ensures in
-    replied-at (g .stage2 .given .1) (s .args .list .now) (s .args .index .now) (s .args .bytes .now)
+    replied-at (g .stage2 .given .1) (s .args .list .now) (s .args .tables .now) (s .args .bytes .now)
     (l .0) refl (l .1)
 
 same-length-7 : tie.Need-same-length-7
@@ -97,7 +97,7 @@ returns-4 : tie.Need-returns-4
 returns-4 c =
     let g = c .before .before .before .before .before .before .before in
     let s = g .before .before .before .before .before .before in
-    replied-at (g .stage3 .given .1) (s .args .list .now) (s .args .index .now) (s .args .bytes .now)
+    replied-at (g .stage3 .given .1) (s .args .list .now) (s .args .tables .now) (s .args .bytes .now)
     (c .before .before .after-blocks .ensures) refl refl
 
 same-length-10 : tie.Need-same-length-10
@@ -107,7 +107,7 @@ returns-5 : tie.Need-returns-5
 returns-5 c =
     let g = c .before .before in
     let s = g .before .before .before .before .before .before in
-    replied-at (g .enum-told2 .given .1) (s .args .list .now) (s .args .index .now) (s .args .bytes .now)
+    replied-at (g .enum-told2 .given .1) (s .args .list .now) (s .args .tables .now) (s .args .bytes .now)
     (record { reply = c .run-over .ensures .0 _; rest = refl }) refl refl
 
 pub advance-spec : {M : Type 1} → statement M

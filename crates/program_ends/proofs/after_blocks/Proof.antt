@@ -8,7 +8,7 @@ use lib.Seq.{length-take-le}
 use Rattle.matrix.specs.Paper.Code.{Matrix}
 use Rattle.matrix.specs.Paper.Shapes.{matrixOf}
 use Rattle.matrix.proofs.Rows.{few-entries}
-use Rattle.matrix_index.specs.Paper.Index.{indexOf}
+use Rattle.program_tables.specs.Tables.{tablesOf}
 use Rattle.quantiser_levels.specs.Paper.Samples.{Setting}
 use Rattle.quantiser_settings.specs.Paper.Settings.{settingOf}
 use Rattle.program_turns.specs.Turns.{bytesAtOnce}
@@ -16,7 +16,7 @@ use Rattle.program_lines.specs.Loans.{Countable}
 use Rattle.program_lines.specs.Paper.Blocks.{chunkText}
 use Rattle.program_lines.proofs.BlockLines.{chunk-ends}
 use Rattle.program_ends.specs.Stages.{blocksFrom, ends}
-use Rattle.program_ends.proofs.Replies.{text-alone, replied-over, index-front, countable, blocks-last, blocks-more}
+use Rattle.program_ends.proofs.Replies.{text-alone, replied-over, tables-front, countable, blocks-last, blocks-more}
 use borrow.Author.Needs.{needs}
 use Rattle.program_ends.proofs.after_blocks.Statement.{statement}
 use Rattle.program_ends.proofs.after_blocks.Tie as tie
@@ -61,11 +61,11 @@ mul-want-2 c = search needs
 entries-requires : tie.Need-entries-requires
 entries-requires c κs = few-entries _ (c .before .before .before .before .before .before .pre .readable .0 .matrix .sizes)
 
+mul-size : tie.Need-mul-size
+mul-size c = search needs
+
 add-size : tie.Need-add-size
 add-size c = search needs
-
-add-size-2 : tie.Need-add-size-2
-add-size-2 c = let a = start c .pre .readable .0 .matrix .sizes in omega (arith, a .n-most, c .entries .ensures, few-entries _ a)
 
 slice-aggregate-chunk : tie.Need-slice-aggregate-chunk
 slice-aggregate-chunk c =
@@ -79,16 +79,15 @@ slice-aggregate-chunk-2 c =
     let e = c .before .before in
     let s = start e in
     let a = s .pre .readable .0 .matrix .sizes in
-    sym (length-take-le (s .args .shape .n + 1 + e .entries .result) (s .args .index .now)
-    (omega (arith, s .pre .index, a .n-most, e .entries .ensures, few-entries _ a)))
+    sym (length-take-le (2050 + 17 * s .args .shape .n) (s .args .tables .now) (omega (arith, s .pre .tables, a .n-most)))
 
 chunk-requires : tie.Need-chunk-requires
 chunk-requires c κs =
     let e = c .before .before .before in
     let s = start e in
-    let x = s .args .index .now in (
+    let x = s .args .tables .now in (
       printable e,
-      subst (λ (k : ℕ). take (s .args .shape .n + 1 + k) x ≡ indexOf (lent s k)) (sym (e .entries .ensures)) (index-front (whole s) x (s .pre .held)),
+      subst (λ (k : ℕ). take (2050 + 17 * s .args .shape .n) x ≡ tablesOf (lent s k) (by s)) (sym (e .entries .ensures)) (tables-front (whole s) (by s) x (s .pre .held)),
     )
 
 run-over-requires : tie.Need-run-over-requires
@@ -160,8 +159,8 @@ after-blocks-spec =
     mul-want
     mul-want-2
     entries-requires
+    mul-size
     add-size
-    add-size-2
     slice-aggregate-chunk
     slice-aggregate-chunk-2
     chunk-requires

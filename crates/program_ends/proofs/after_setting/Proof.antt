@@ -6,16 +6,16 @@ use lib.ListN.{take}
 use lib.Seq.{length-take-le}
 use Rattle.counting.specs.Paper.Lists.{over}
 use Rattle.matrix.specs.Paper.Code.{Matrix}
-use Rattle.matrix.specs.Paper.PlainCheck.{Accepted}
 use Rattle.matrix.specs.Paper.Shapes.{matrixOf}
-use Rattle.matrix_index.specs.Paper.Index.{indexOf}
-use Rattle.matrix_index.proofs.Filling.{size-small}
+use Rattle.quantiser_settings.specs.Paper.Settings.{settingOf}
+use Rattle.program_tables.specs.Tables.{tablesOf}
+use Rattle.program_tables.proofs.Tables.{tables-short}
 use Rattle.program_input.specs.Paper.Input.{settingIn}
-use Rattle.program_input.specs.Paper.Opening.{Opening, opening, openingVerdict}
+use Rattle.program_input.specs.Paper.Opening.{Opening, opening, openingVerdict, Decodable}
 use Rattle.program_input.specs.Runs.{openedOf}
 use Rattle.program_input.proofs.Openings.{decodable}
 use Rattle.program_ends.specs.Stages.{ends}
-use Rattle.program_ends.proofs.Replies.{text-alone, replied-as, replied-over, setting-short, setting-whole, opened-reply, opened-index}
+use Rattle.program_ends.proofs.Replies.{text-alone, replied-as, replied-over, setting-short, setting-whole, opened-reply, opened-tables}
 use borrow.Author.Needs.{needs}
 use Rattle.program_ends.proofs.after_setting.Statement.{statement}
 use Rattle.program_ends.proofs.after_setting.Tie as tie
@@ -31,12 +31,13 @@ whole s = lent s (s .args .shape .m * s .args .shape .rho)
 abbrev start : tie.After-entries → tie.Start
 start c = c .before .before .before .before .before .before
 
--- where the run opens, it is accepted
-accepted : (c : tie.After-opened) → Accepted (lent (start (c .before .before .before .before)) (c .before .before .before .before .entries .result))
+-- where the run opens, matrix and setting are accepted
+accepted : (c : tie.After-opened)
+    → Decodable (lent (start (c .before .before .before .before)) (c .before .before .before .before .entries .result)) (settingOf (c .opened .given .0 .0))
 accepted c =
     let e = c .before .before .before .before in
     decodable (lent (start e) (e .entries .result)) (settingIn (start e .args .bytes .now)) _ (c .before .before .begin .ensures)
-    (ap openedOf (c .opened .given .1)) .matrix
+    (ap openedOf (c .opened .given .1))
 
 -- how the run is to begin
 abbrev begins : tie.Start → Opening
@@ -67,7 +68,7 @@ returns c =
     let short = setting-short H bs (omega arith) in (
       replied-over (p .put-short .ensures) (omega (arith, s .pre .room)) (c .run-over .ensures .1)
           (ap ends (text-alone (p .put-short .ensures) (omega (arith, s .pre .room))) ∙ short) (c .run-over .ensures .0 _),
-      opened-index H bs (s .args .index .now) short,
+      opened-tables H bs (s .args .tables .now) short,
     )
 
 entries-requires : tie.Need-entries-requires
@@ -95,10 +96,10 @@ build-requires : tie.Need-build-requires
 build-requires c κs =
     let e = c .before .before .before .before .before .before .before in
     let a = accepted (c .before .before .before) in
-    (a, omega (arith, size-small (lent (start e) (e .entries .result)) a, start e .pre .index))
+    (a .matrix, a .setting, omega (arith, tables-short (lent (start e) (e .entries .result)) (a .matrix), start e .pre .tables))
 
 at-blocks-requires : tie.Need-at-blocks-requires
-at-blocks-requires c κs = let a = accepted (c .before .before .before .before .before .before) in (a .sizes .n-least, a .sizes .n-most)
+at-blocks-requires c κs = let a = accepted (c .before .before .before .before .before .before) .matrix in (a .sizes .n-least, a .sizes .n-most)
 
 enum-known-opened-2 : tie.Need-enum-known-opened-2
 enum-known-opened-2 c = search needs
@@ -118,7 +119,7 @@ returns-2 c =
     let e = c .before .before .before .before .before .before .before .before .before .before .before in
     let s = start e in
     let list = s .args .list .now in
-    let x = s .args .index .now in
+    let x = s .args .tables .now in
     let H = whole s in
     let bs = s .args .bytes .now in
     let opens = opened-reply H (found (o .before .before)) (ap openedOf (o .opened .given .1)) ∙ setting-whole H bs (omega arith) in (
@@ -132,7 +133,8 @@ returns-2 c =
             });
         rest = refl;
       },
-      c .before .before .before .build .ensures ∙ ap (λ (k : ℕ). over (indexOf (lent s k)) x) (e .entries .ensures) ∙ opened-index H bs x opens,
+      c .before .before .before .build .ensures ∙ ap (λ (k : ℕ). over (tablesOf (lent s k) (settingOf (o .opened .given .0 .0))) x) (e .entries .ensures)
+          ∙ opened-tables H bs x opens,
     )
 
 same-length-3 : tie.Need-same-length-3
@@ -148,7 +150,7 @@ returns-3 c =
     let opens = opened-reply H (found (o .before .before)) (ap openedOf (o .opened2 .given .1)) ∙ setting-whole H bs (omega arith) in (
       replied-over (p .put-refused .ensures) (omega (arith, s .pre .room)) (c .run-over2 .ensures .1)
           (ap ends (text-alone (p .put-refused .ensures) (omega (arith, s .pre .room))) ∙ opens) (c .run-over2 .ensures .0 (s .args .list .now)),
-      opened-index H bs (s .args .index .now) opens,
+      opened-tables H bs (s .args .tables .now) opens,
     )
 
 pub after-setting-spec : {M : Type 1} → statement M

@@ -10,11 +10,11 @@ use Rattle.program_lines.proofs.lines.Statement.{statement}
 use Rattle.program_lines.proofs.lines.Tie as tie
 
 abbrev Inv-loop : tie.InvT-loop
-Inv-loop shape list index setting number bytes out₀ at size k₀ from₀ end₀ out k from end = Lined (matrixOf shape list)
+Inv-loop shape list tables setting number bytes out₀ at size k₀ from₀ end₀ out k from end = Lined (matrixOf shape list)
     (settingOf setting) number bytes at out₀ k from out end
 
 abbrev μ-loop : tie.MeasureT-loop
-μ-loop shape list index setting number bytes out₀ at size k₀ from₀ end₀ out k from end = length bytes - from
+μ-loop shape list tables setting number bytes out₀ at size k₀ from₀ end₀ out k from end = length bytes - from
 
 cast-size : tie.Need-cast-size Inv-loop μ-loop
 cast-size c = omega (arith, c .before .before .before .before .before .pre .0 .decodable .matrix .sizes .n-most)

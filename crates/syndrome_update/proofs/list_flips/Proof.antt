@@ -1,62 +1,37 @@
 -- `syndrome_update::list_flips`. The loop's invariant: the first `t` of `places` are the places below `j` at which the words differ.
-use Prim.Native.Nat.{_-_, _≤_}
-use mathlib.Core.Path.{_≡_, sym, _∙_}
-use native.Mathlib.Nat.{le-antisymm}
+use Prim.Native.Nat.{_-_, _+_, _≤_}
+use mathlib.Core.Path.{sym, _∙_}
 use native.Mathlib.Omega.{arith}
-use lib.Bits.{bitXor}
 use Rattle.counting.specs.Places.{at}
-use Rattle.syndrome.specs.Places.{PlacesListed}
-use Rattle.syndrome.proofs.Lists.{listed-none, listed-step}
-use Rattle.syndrome_update.specs.Parities.{differing}
-use Rattle.syndrome_update.proofs.Turns.{difference-is, difference-bit, bit-below}
+use Rattle.syndrome_update.specs.Parities.{differing, FlipsListed}
+use Rattle.syndrome_update.proofs.Turns.{bits-fewer}
+use Rattle.syndrome_update.proofs.Flips.{flips-none, flips-join}
 use Rattle.syndrome_update.proofs.list_flips.Statement.{statement}
 use Rattle.syndrome_update.proofs.list_flips.Tie as tie
 
 abbrev Inv-loop : tie.InvT-loop
-Inv-loop n before bits places₀ t₀ j₀ places t j = (j ≤ n) × PlacesListed (differing (at before) (at bits)) j places₀ places t
+Inv-loop n before bits places₀ t₀ j₀ places t j = (j ≤ n) × FlipsListed (differing (at before) (at bits)) j places₀ places t
 
 abbrev μ-loop : tie.MeasureT-loop
 μ-loop n before bits places₀ t₀ j₀ places t j = n - j
 
--- the next difference as it is computed, once there is one
-difference : (c : tie.In-loop Inv-loop μ-loop)
-    → bitXor (at (c .before .before .args .before .now) (c .before .loop .j)) (at (c .before .before .args .bits .now) (c .before .loop .j))
-    ≡ differing (at (c .before .before .args .before .now)) (at (c .before .before .args .bits .now)) (c .before .loop .j)
-difference c =
-    let s = c .before .before in
-    let j = c .before .loop .j in
-    difference-is (at (s .args .before .now)) (at (s .args .bits .now)) j (bit-below (s .args .n) (s .args .before .now) j (s .pre .1) (omega arith))
-    (bit-below (s .args .n) (s .args .bits .now) j (s .pre .2) (omega arith))
-
 loop-holds : tie.Need-loop-holds Inv-loop μ-loop
-loop-holds c = (omega arith, listed-none (differing (at (c .args .before .now)) (at (c .args .bits .now))) (c .args .places .now) (c .pre .3))
+loop-holds c =
+    let s = c .before in
+    (omega arith, flips-none (differing (at (s .args .before .now)) (at (s .args .bits .now))) (s .args .places .now) (s .pre .3))
 
-cast-places : tie.Need-cast-places Inv-loop μ-loop
-cast-places c = omega arith
+sub-loop : tie.Need-sub-loop Inv-loop μ-loop
+sub-loop c = c .loop .inv .0
 
-mul-places : tie.Need-mul-places Inv-loop μ-loop
-mul-places c = omega (arith, c .before .loop .inv .1 .places .few)
-
-slice-write-places : tie.Need-slice-write-places Inv-loop μ-loop
-slice-write-places c = omega (arith, c .before .loop .inv .1 .places .few, c .before .loop .inv .1 .places .long)
-
-element-copy-out-t : tie.Need-element-copy-out-t Inv-loop μ-loop
-element-copy-out-t c = omega arith
-
-element-copy-out-t-2 : tie.Need-element-copy-out-t-2 Inv-loop μ-loop
-element-copy-out-t-2 c = omega arith
-
-cast-t : tie.Need-cast-t Inv-loop μ-loop
-cast-t c =
+list-eight-requires : tie.Need-list-eight-requires Inv-loop μ-loop
+list-eight-requires c κs =
     let s = c .before .before .before .before in
-    let o = c .before .before .before .loop in
-    omega (arith, difference (c .before .before), difference-bit (at (s .args .before .now)) (at (s .args .bits .now)) (o .j))
-
-add-t : tie.Need-add-t Inv-loop μ-loop
-add-t c =
-    let s = c .before .before .before .before in
-    let o = c .before .before .before .loop in
-    omega (arith, difference (c .before .before), difference-bit (at (s .args .before .now)) (at (s .args .bits .now)) (o .j), o .inv .1 .places .few)
+    let o = c .before .before .loop in (
+      omega (arith, s .pre .0),
+      bits-fewer (s .args .n) (o .j + 8) (s .args .before .now) (s .pre .1) (omega arith),
+      bits-fewer (s .args .n) (o .j + 8) (s .args .bits .now) (s .pre .2) (omega arith),
+      o .inv .1 .places,
+    )
 
 add-j : tie.Need-add-j Inv-loop μ-loop
 add-j c = omega arith
@@ -66,19 +41,29 @@ loop-less c = omega arith
 
 loop-again : tie.Need-loop-again Inv-loop μ-loop
 loop-again c =
-    let s = c .before .before .before .before in
-    let o = c .before .before .before .loop in
-    let e = difference (c .before .before) in (
+    let s = c .before .before .before .before .before .before .before in
+    let o = c .before .before .before .before .before .loop in (
       omega arith,
-      listed-step (differing (at (s .args .before .now)) (at (s .args .bits .now))) (o .j) (s .args .places .now) (o .places) (o .t) (o .inv .1)
-          (omega arith) _ e (omega (arith, e, difference-bit (at (s .args .before .now)) (at (s .args .bits .now)) (o .j))),
+      flips-join (differing (at (s .args .before .now)) (at (s .args .bits .now))) (o .j) (o .j + 8) (s .args .places .now) (o .places) _ (o .t) _ (omega arith)
+          (o .inv .1) (c .before .before .list-eight .ensures),
     )
 
+list-part-requires : tie.Need-list-part-requires Inv-loop μ-loop
+list-part-requires c κs =
+    let s = c .before .before .before .before in
+    let o = c .before .before .loop in
+    (o .inv .0, s .pre .0, s .pre .1, s .pre .2, o .inv .1 .places)
+
 same-length : tie.Need-same-length Inv-loop μ-loop
-same-length c = c .before .loop .inv .1 .places .long ∙ sym (c .before .before .pre .3)
+same-length c =
+    c .before .before .list-part .ensures .places .long ∙ sym (c .before .before .before .before .before .before .before .pre .3)
 
 returns : tie.Need-returns Inv-loop μ-loop
-returns c = rw (le-antisymm (c .before .loop .inv .0) (omega arith)) at (c .before .loop .inv .1)
+returns c =
+    let s = c .before .before .before .before .before .before .before in
+    let o = c .before .before .before .before .before .loop in
+    flips-join (differing (at (s .args .before .now)) (at (s .args .bits .now))) (o .j) (s .args .n) (s .args .places .now) (o .places) _ (o .t) _ (o .inv .0)
+    (o .inv .1) (c .before .before .list-part .ensures)
 
 pub list-flips-spec : {M : Type 1} → statement M
 list-flips-spec =
@@ -87,15 +72,11 @@ list-flips-spec =
     Inv-loop
     μ-loop
     loop-holds
-    cast-places
-    mul-places
-    slice-write-places
-    element-copy-out-t
-    element-copy-out-t-2
-    cast-t
-    add-t
+    sub-loop
+    list-eight-requires
     add-j
     loop-less
     loop-again
+    list-part-requires
     same-length
     returns)

@@ -1,0 +1,2 @@
+-- What the contracts of `iterative_sets` cite.
+pub mod Rounds

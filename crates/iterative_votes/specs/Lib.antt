@@ -1,0 +1,2 @@
+-- What the contracts of `iterative_votes` cite.
+pub mod Kept

@@ -1,0 +1,2 @@
+-- What the contracts of `program_samples` cite.
+pub mod Taken

@@ -1,0 +1,2 @@
+-- What the contracts of `program_tables` cite.
+pub mod Tables

@@ -1,0 +1,3 @@
+-- What the contracts of `quantiser_guess` cite.
+pub mod Guess
+pub mod Placed

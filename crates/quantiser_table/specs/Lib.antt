@@ -1,0 +1,3 @@
+-- What the contracts of `quantiser_table` cite.
+pub mod Least
+pub mod Scales

@@ -1,0 +1,3 @@
+pub mod Lowest
+pub mod Listing
+pub mod Only

@@ -1,0 +1,2 @@
+-- What the contracts over listed checks cite.
+pub mod Words

@@ -1,0 +1,2 @@
+-- What the contracts over words of checks cite.
+pub mod Sets
