@@ -8,5 +8,7 @@ pub mod Residues
 pub mod Integers
 pub mod Stores
 pub mod Digits
+pub mod Bits
 pub mod Decisions
 pub mod Writes
+pub mod Parts

@@ -3,6 +3,8 @@
 --   begun-small      == and it is either at most once
 --   votes-moved      == so are the votes of the sets: those of one, and of what only the other has, are the same either way
 --   votes-weight     == checks that vote at most once give a bit at most as many votes as it has checks
+--   listed-few       == rows that are listed at most once each give a bit few votes
+--   only-small       == a check that only one set has is listed at most once
 --   begun-room       == the checks that began to fail have room for their votes
 --   ended-there      == those that no longer fail have theirs there, once the others have been added
 --   moved            == with the ones added and the others taken the votes are those of the set
@@ -33,7 +35,8 @@ use Rattle.syndrome.specs.Places.{Places}
 use Rattle.syndrome_words.specs.Sets.{bitIn, onlyIn, setVotes, SetVotes}
 use Rattle.syndrome_words.proofs.Sets.{bit-bit, zero-bit}
 use Rattle.majority_votes.specs.Tallies.{ofRows, Addable, More, Takeable, Fewer}
-use Rattle.majority_votes.proofs.Sums.{places-votes}
+use Rattle.majority_votes.proofs.Sums.{places-parts, places-votes}
+use Rattle.majority_sets.specs.Sets.{VotesFew}
 use Rattle.iterative_votes.specs.Kept.{noVotes, VotesOf}
 
 -- ---- one check
@@ -92,6 +95,19 @@ pub votes-weight : (H : Matrix) (f : ℕ → ℕ) → ((i : ℕ) → f i ≤ 1) 
 unfolding weight
 votes-weight H f s j =
     sum-le (H .m) (λ i h. omega (arith, mul-le-mul-left (has H i j) (s i), mul-one (has H i j)))
+
+-- rows listed once each, or not at all
+pub listed-few : (H : Matrix) → Accepted H → (f : ℕ → ℕ) → ((i : ℕ) → f i ≤ 1) → (rows : List ℕ) (t : ℕ) → Places f (H .m) rows t → VotesFew H rows t
+listed-few H ac f s rows t p =
+    record {
+      parts = places-parts H ac f rows t p;
+      below = p .below;
+      few = λ j. omega (arith, places-votes H ac f rows t p j, votes-weight H f s j, weight-small H ac j);
+    }
+
+-- as those that only one set has
+pub only-small : (a b : List ℕ) (i : ℕ) → onlyIn b a i ≤ 1
+only-small a b i = omega (arith, begun-small a b i)
 
 -- ---- from one set to another
 

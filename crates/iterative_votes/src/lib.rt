@@ -1,6 +1,6 @@
 // The votes of the failing checks, kept from one word to the next: checks that began to fail add theirs, and those that no longer do take theirs away;
 // or all that fail vote anew, where these are no more.
-// Rests on `syndrome_sets`, `syndrome_rows` and `majority_votes`. Document 01: "Iterative voting", step 4.
+// Rests on `syndrome_sets`, `syndrome_rows` and `majority_sets`. Document 01: "Iterative voting", step 4.
 use matrix_check::Shape;
 ghost use mathlib.Core.Path.{_≡_};
 ghost use Prim.Native.Nat.{_≤_};
@@ -8,6 +8,7 @@ ghost use lib.ListN.{length};
 ghost use Rattle.counting.specs.Paper.Lists.{listed, over};
 ghost use Rattle.matrix.specs.Paper.PlainCheck.{Accepted};
 ghost use Rattle.matrix.specs.Paper.Shapes.{matrixOf};
+ghost use Rattle.matrix_rows.specs.Rows.{RowSets};
 ghost use Rattle.syndrome_words.specs.Sets.{Within, setFailing, SetVotes};
 ghost use Rattle.iterative_votes.specs.Kept.{noVotes, VotesOf};
 
@@ -27,40 +28,40 @@ fn clear(n: usize, votes: &mut [u8; 1023])
 fn vote_anew(
     shape: Shape,
     list: &[u16],
+    supports: &[u64],
     parity: &[u64; 16],
     rows: &mut [u16; 1023],
     votes: &mut [u8; 1023],
 )
-    requires { ⌜ Accepted (matrixOf shape (now list)) × Within (shape .m) (now parity) × (length (now rows) ≡ 1023) × VotesOf (shape .n) (now votes) ⌝ }
+    requires { ⌜ Accepted (matrixOf shape (now list)) × RowSets (matrixOf shape (now list)) (now supports) × Within (shape .m) (now parity) × (length (now rows) ≡ 1023) × VotesOf (shape .n) (now votes) ⌝ }
     ensures { λ _. ⌜ SetVotes (matrixOf shape (now (list .entry))) (now (parity .entry)) (now (votes .exit)) × (length (now (rows .exit)) ≡ 1023) ⌝ }
 {
     let n = shape.n as usize;
     let m = shape.m as usize;
-    let rho = shape.rho as usize;
     let none = [0u64; 16];
     let count = syndrome_rows::list_only(m, parity, &none, rows);
     clear(n, votes);
-    majority_votes::add_rows(list, rho, rows, count, votes);
+    majority_sets::add(shape, list, supports, rows, count, votes);
 }
 
 // The checks that only the set `parity` has add their votes, and those that only the set `was` has take theirs away.
 fn move_votes(
     shape: Shape,
     list: &[u16],
+    supports: &[u64],
     was: &[u64; 16],
     parity: &[u64; 16],
     rows: &mut [u16; 1023],
     votes: &mut [u8; 1023],
 )
-    requires { ⌜ Accepted (matrixOf shape (now list)) × Within (shape .m) (now was) × Within (shape .m) (now parity) × SetVotes (matrixOf shape (now list)) (now was) (now votes) × (length (now rows) ≡ 1023) ⌝ }
+    requires { ⌜ Accepted (matrixOf shape (now list)) × RowSets (matrixOf shape (now list)) (now supports) × Within (shape .m) (now was) × Within (shape .m) (now parity) × SetVotes (matrixOf shape (now list)) (now was) (now votes) × (length (now rows) ≡ 1023) ⌝ }
     ensures { λ _. ⌜ SetVotes (matrixOf shape (now (list .entry))) (now (parity .entry)) (now (votes .exit)) × (length (now (rows .exit)) ≡ 1023) ⌝ }
 {
     let m = shape.m as usize;
-    let rho = shape.rho as usize;
     let more = syndrome_rows::list_only(m, parity, was, rows);
-    majority_votes::add_rows(list, rho, rows, more, votes);
+    majority_sets::add(shape, list, supports, rows, more, votes);
     let fewer = syndrome_rows::list_only(m, was, parity, rows);
-    majority_votes::take_rows(list, rho, rows, fewer, votes);
+    majority_sets::take(shape, list, supports, rows, fewer, votes);
 }
 
 // The votes of the set `was` become those of the set `parity`, whose checks are counted. What `rows` holds afterwards does not matter.
@@ -68,12 +69,13 @@ fn move_votes(
 pub fn revote(
     shape: Shape,
     list: &[u16],
+    supports: &[u64],
     was: &[u64; 16],
     parity: &[u64; 16],
     rows: &mut [u16; 1023],
     votes: &mut [u8; 1023],
 ) -> u16
-    requires { ⌜ Accepted (matrixOf shape (now list)) × Within (shape .m) (now was) × Within (shape .m) (now parity) × SetVotes (matrixOf shape (now list)) (now was) (now votes) × (length (now rows) ≡ 1023) ⌝ }
+    requires { ⌜ Accepted (matrixOf shape (now list)) × RowSets (matrixOf shape (now list)) (now supports) × Within (shape .m) (now was) × Within (shape .m) (now parity) × SetVotes (matrixOf shape (now list)) (now was) (now votes) × (length (now rows) ≡ 1023) ⌝ }
     ensures { λ r. ⌜ SetVotes (matrixOf shape (now (list .entry))) (now (parity .entry)) (now (votes .exit)) × (r ≡ setFailing (matrixOf shape (now (list .entry))) (now (parity .entry))) × (length (now (rows .exit)) ≡ 1023) ⌝ }
 {
     let m = shape.m as usize;
@@ -81,9 +83,9 @@ pub fn revote(
     let none = [0u64; 16];
     let failing = syndrome_sets::apart(words, parity, &none);
     if syndrome_sets::apart(words, was, parity) < failing {
-        move_votes(shape, list, was, parity, rows, votes);
+        move_votes(shape, list, supports, was, parity, rows, votes);
     } else {
-        vote_anew(shape, list, parity, rows, votes);
+        vote_anew(shape, list, supports, parity, rows, votes);
     }
     failing
 }

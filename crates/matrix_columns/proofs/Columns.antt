@@ -15,13 +15,13 @@ use Rattle.counting.specs.Digits.{binaryDigit}
 use Rattle.counting.specs.Paper.Lists.{listed, over}
 use Rattle.counting.specs.Places.{at}
 use Rattle.counting.proofs.Writes.{length-listed, getD-listed, over-at}
+use Rattle.counting.proofs.Bits.{bits-digit}
 use Rattle.matrix.specs.Paper.Code.{Matrix, weight}
 use Rattle.matrix.specs.Paper.PlainCheck.{Accepted}
 use Rattle.matrix.specs.Tallies.{Weighed}
 use Rattle.matrix.proofs.Weights.{weight-small}
 use Rattle.syndrome_words.specs.Sets.{bitIn, hasRow, ColumnSets}
 use Rattle.matrix_columns.specs.Columns.{columnWord, columnCell, columnsSize, columnsOf}
-use Rattle.matrix_columns.proofs.Words.{bits-digit}
 use Rattle.matrix_columns.proofs.Shares.{row-bit}
 
 -- there are sixteen words and a weight a column

@@ -1,4 +1,3 @@
-pub mod Words
 pub mod Shares
 pub mod Filling
 pub mod Columns

@@ -17,6 +17,7 @@ use borrow.Author.Tests.{lt-ltb, le-ltb}
 use lib.Arith.{digits-div, digits-mod}
 use Rattle.counting.specs.Paper.Sum.{sumBelow, same}
 use Rattle.counting.proofs.Sums.{sum-cong, sum-zero, sum-append, sum-flat, sum-mul, sum-mul-right, sum-next, sum-pick, same-refl, same-ne, same-sym}
+use Rattle.counting.proofs.Bits.{bits-below}
 use Rattle.matrix.specs.Paper.Code.{Matrix, entry, has, weight}
 use Rattle.matrix.specs.Paper.PlainCheck.{Accepted}
 use Rattle.matrix.proofs.Rows.{has-le}
@@ -25,7 +26,6 @@ use Rattle.syndrome_words.specs.Sets.{hasRow}
 use Rattle.syndrome_words.proofs.Sets.{row-there, row-past}
 use Rattle.matrix_columns.specs.Columns.{columnWord, columnCell, columnsSize}
 use Rattle.matrix_columns.specs.Filling.{entryShare, rowShare, rowsShare}
-use Rattle.matrix_columns.proofs.Words.{bits-below}
 
 -- ---- entries
 

@@ -17,7 +17,7 @@ use Rattle.program.specs.Pieces.{PieceLent, Piece, Replies, more}
 
 -- the run begins
 pub lent-first : {a : Awaited} {w e : ℕ} {l x input out₀ out : List ℕ} → RepliedOver firstReply a w e out₀ out
-    → length l ≡ 32736 → length x ≡ 19441 → length input ≡ 65536 → length out ≡ 65536
+    → length l ≡ 32736 → length x ≡ 35809 → length input ≡ 65536 → length out ≡ 65536
     → PieceLent a w l x input out
 lent-first {x = x} r f g h k =
     record {

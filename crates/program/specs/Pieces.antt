@@ -22,7 +22,7 @@ pub record PieceLent (a : Awaited) (w : ℕ) (l x input out : List ℕ) : Type 0
   pub readable : Readable a
   pub want : w ≡ wanted a
   pub list : length l ≡ 32736
-  pub tables : length x ≡ 19441
+  pub tables : length x ≡ 35809
   pub held : TablesHeld a x
   pub long : length input ≡ 65536
   pub room : length out ≡ 65536

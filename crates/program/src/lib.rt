@@ -45,10 +45,10 @@ fn until_done(
     stage
 }
 
-// The program. The tables have 2,050 least magnitudes, and 17 cells for each of at most 1,023 columns.
+// The program. The tables have 2,050 least magnitudes, 17 cells for each of at most 1,023 columns, and 16 for each of at most 1,023 rows.
 pub fn run() {
     let mut list = [0u16; 32736];
-    let mut tables = [0u64; 19441];
+    let mut tables = [0u64; 35809];
     let mut input = io::large_buffer();
     let mut out = io::large_buffer();
     let first = program_ends::first(&mut out);

@@ -30,7 +30,7 @@ pub fn decode(
 {
     let n = shape.n as usize;
     let middle = largest_of(setting.bits);
-    let from = program_tables::COLUMNS;
+    let from = program_tables::SETS;
     let mut bits = [0u8; 1023];
     let mut kept: [Kept; 1023] = [0; 1023];
     let mut marks = [0u8; 1023];

@@ -28,7 +28,7 @@ use Rattle.counting.specs.Paper.Lists.{over}
 use Rattle.byte_numbers.specs.Paper.Numbers.{entriesIn}
 use Rattle.matrix.specs.Paper.Code.{Matrix}
 use Rattle.matrix.specs.Paper.Check.{sizesFit}
-use Rattle.matrix_columns.specs.Columns.{columnsSize}
+use Rattle.matrix_sets.proofs.Sets.{sets-cells}
 use Rattle.program_tables.specs.Tables.{tablesOf, tablesSize}
 use Rattle.quantiser_levels.specs.Paper.Samples.{Setting}
 use Rattle.program_numerals.specs.Texts.{PutWithin}
@@ -132,9 +132,10 @@ module _ (H : Matrix) (S : Setting) (i : ℕ) (bs : List ℕ) where
 -- ---- what is read
 
 -- the tables at the front of their array
-pub tables-front : (H : Matrix) (S : Setting) (x : List ℕ) → take (tablesSize H) x ≡ tablesOf H S → take (2050 + 17 * H .n) x ≡ tablesOf H S
-unfolding tablesSize columnsSize
-tables-front H S x h = h
+pub tables-front : (H : Matrix) (S : Setting) (x : List ℕ) → take (tablesSize H) x ≡ tablesOf H S
+    → take (2050 + (17 * H .n + 16 * H .m)) x ≡ tablesOf H S
+unfolding tablesSize
+tables-front H S x h = rw (sets-cells H) at h
 
 -- a run that begins, by what was found
 pub opened-reply : (H : Matrix) {o p : Opening} → o ≡ p → {q : Opening} → o ≡ q → openedReply q H ≡ openedReply p H

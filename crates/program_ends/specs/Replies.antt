@@ -53,7 +53,7 @@ pub record Asked (a : Awaited) (l x bs out : List ℕ) : Type 0 where
   pub readable : Readable a
   pub came : length bs ≤ wanted a
   pub list : length l ≡ 32736
-  pub tables : length x ≡ 19441
+  pub tables : length x ≡ 35809
   pub held : TablesHeld a x
   pub room : length out ≡ 65536
 

@@ -163,10 +163,11 @@ fn after_blocks(
     ensures { λ r. ⌜ RepliedOver (blocksReply (matrixOf shape (take (shape .m * shape .rho) (now (list .entry)))) (settingOf setting) number (now (bytes .entry))) (awaitedOf (r .stage) (now (list .entry))) (r .want) (r .end) (now (out .entry)) (now (out .exit)) ⌝ }
 {
     let n = shape.n as usize;
+    let m = shape.m as usize;
     let some = program_turns::at_once(n, number);
     let want = some * (4 * n);
     let count = entries(shape);
-    let size = program_tables::COLUMNS + 17 * n;
+    let size = program_tables::SETS + (17 * n + 16 * m);
     let end = program_lines::chunk(
         shape,
         &list[..count],

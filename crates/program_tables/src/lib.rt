@@ -1,5 +1,5 @@
-// What a run keeps for its blocks: the table of least magnitudes of its setting, and behind it the columns of its matrix as sets of rows.
-// Rests on `quantiser_table` and `matrix_columns`. Document 01: "Worked by hand", the paragraph on the program.
+// What a run keeps for its blocks: the table of least magnitudes of its setting, and behind it its matrix as sets.
+// Rests on `quantiser_table` and `matrix_sets`. Document 01: "Worked by hand", the paragraph on the program.
 use matrix_check::Shape;
 use quantiser_settings::Setting;
 ghost use mathlib.Core.Path.{_≡_};
@@ -13,15 +13,15 @@ ghost use Rattle.quantiser_levels.specs.Paper.Samples.{settingFits};
 ghost use Rattle.quantiser_settings.specs.Paper.Settings.{settingOf};
 ghost use Rattle.program_tables.specs.Tables.{tablesSize, tablesOf};
 
-// Where the columns begin: behind the least magnitudes of 0 to 2,049.
-pub const COLUMNS: usize = 2050;
+// Where the sets begin: behind the least magnitudes of 0 to 2,049.
+pub const SETS: usize = 2050;
 
 // Writes the tables at the front of `tables`; the cells past them stay. Only this repository's crates call it, with what is accepted and room for them.
 pub fn build(shape: Shape, list: &[u16], setting: Setting, tables: &mut [u64])
     requires { ⌜ Accepted (matrixOf shape (now list)) × (settingFits (settingOf setting) ≡ true) × (tablesSize (matrixOf shape (now list)) ≤ length (now tables)) ⌝ }
     ensures { λ _. ⌜ now (tables .exit) ≡ over (tablesOf (matrixOf shape (now (list .entry))) (settingOf setting)) (now (tables .entry)) ⌝ }
 {
-    let from = COLUMNS;
+    let from = SETS;
     quantiser_table::build(setting, &mut tables[..from]);
-    matrix_columns::build(shape, list, &mut tables[from..]);
+    matrix_sets::build(shape, list, &mut tables[from..]);
 }

@@ -13,7 +13,7 @@ use Rattle.iterative_sets.proofs.retally.Tie as tie
 
 -- the call as it starts, from the place where the set is turned over
 abbrev start : tie.After-turn → tie.Start
-start t = t .before .before .before .before .before .before .before .before .before .before
+start t = t .before .before .before .before .before .before .before .before .before .before .before
 
 -- the matrix that is lent
 abbrev lent : tie.Start → Matrix
@@ -35,7 +35,7 @@ cast-m c = search needs
 
 list-flips-requires : tie.Need-list-flips-requires
 list-flips-requires c κs =
-    let s = c .before .before .before .before .before .before in (
+    let s = c .before .before .before .before .before .before .before in (
       s .pre .0 .0 .sizes .n-most,
       word-below (lent s) (s .args .before .now) (s .pre .1 .0),
       word-below (lent s) (s .args .bits .now) (s .pre .1 .1),
@@ -49,7 +49,7 @@ revote-requires : tie.Need-revote-requires
 revote-requires c κs =
     let t = c .before .before .before .before in
     let s = start t in
-    (s .pre .0 .0, s .pre .1 .2 .past, turned t .past, s .pre .1 .3, t .before .before .before .list-flips .ensures .places .long)
+    (s .pre .0 .0, s .pre .0 .3, s .pre .1 .2 .past, turned t .past, s .pre .1 .3, t .before .before .before .list-flips .ensures .places .long)
 
 returns : tie.Need-returns
 returns c =

@@ -28,16 +28,16 @@ copy-requires c κs = search needs
 
 update-requires : tie.Need-update-requires
 update-requires c κs =
-    let p = c .before .before .before .before .before .before .before .before .before .pre .0 .0 in
+    let p = c .before .before .before .before .before .before .before .before .before .before .pre .0 .0 in
     (record { columns = p .matrix .sizes .n-most; levels = omega (arith, p .largest); within = p .within }, p .long-word, p .long-levels)
 
 retally-requires : tie.Need-retally-requires
 retally-requires c κs =
-    let s = c .before .before .before .before .before .before .before .before .before .before .before .before .before .before .before in
+    let s = c .before .before .before .before .before .before .before .before .before .before .before .before .before .before .before .before in
     let copied = c .before .before .before .before .before .before .before .before .before .copy .ensures in
     let u = c .before .before .before .before .before .update in
     let p = s .pre .0 .0 in (
-      (p .matrix, s .pre .0 .1, s .pre .1 .3),
+      (p .matrix, s .pre .0 .1, s .pre .1 .3, s .pre .0 .3),
       (
         copied-word (lent s) (p .matrix) (s .args .bits .now) (s .args .before .now) _ copied (p .word),
         moved-word (lent s) _ _ _ _ _ _ _ _ (u .ensures),
@@ -48,7 +48,7 @@ retally-requires c κs =
 
 returns : tie.Need-returns
 returns c =
-    let s = c .before .before .before .before .before .before .before .before .before .before .before .before .before .before .before .before in
+    let s = c .before .before .before .before .before .before .before .before .before .before .before .before .before .before .before .before .before in
     let u = c .before .before .before .before .before .before .update in
     let copied = c .before .before .before .before .before .before .before .before .before .before .copy .ensures in (
       record {

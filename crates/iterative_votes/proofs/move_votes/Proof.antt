@@ -2,47 +2,47 @@
 use borrow.Author.Needs.{needs}
 use Rattle.matrix.specs.Paper.Shapes.{matrixOf}
 use Rattle.syndrome_words.specs.Sets.{onlyIn}
-use Rattle.majority_votes.proofs.Sums.{places-parts}
-use Rattle.iterative_votes.proofs.Kept.{begun-room, ended-there, moved}
+use Rattle.iterative_votes.proofs.Kept.{listed-few, only-small, begun-room, ended-there, moved}
 use Rattle.iterative_votes.proofs.move_votes.Statement.{statement}
 use Rattle.iterative_votes.proofs.move_votes.Tie as tie
 
 cast-m : tie.Need-cast-m
 cast-m c = search needs
 
-cast-rho : tie.Need-cast-rho
-cast-rho c = search needs
-
 list-only-requires : tie.Need-list-only-requires
 list-only-requires c κs = search needs
 
-add-rows-requires : tie.Need-add-rows-requires
-add-rows-requires c κs =
+add-requires : tie.Need-add-requires
+add-requires c κs =
     let s = c .before .before .before .before .before .before .before in
     let a = s .args in
     let H = matrixOf (a .shape) (a .list .now) in
     let f = c .before .before .list-only in
     let rows = f .last .1 .1 .1 .0 in (
-      places-parts H (s .pre .0) (onlyIn (a .parity .now) (a .was .now)) rows (f .result) (f .ensures),
-      begun-room H (s .pre .0) (a .was .now) (a .parity .now) (a .votes .now) (s .pre .3) rows (f .result) (f .ensures),
+      s .pre .0,
+      s .pre .1,
+      listed-few H (s .pre .0) (onlyIn (a .parity .now) (a .was .now)) (only-small (a .was .now) (a .parity .now)) rows (f .result) (f .ensures),
+      begun-room H (s .pre .0) (a .was .now) (a .parity .now) (a .votes .now) (s .pre .4) rows (f .result) (f .ensures),
     )
 
 list-only-requires-2 : tie.Need-list-only-requires-2
 list-only-requires-2 c κs = search needs
 
-take-rows-requires : tie.Need-take-rows-requires
-take-rows-requires c κs =
+take-requires : tie.Need-take-requires
+take-requires c κs =
     let s = c .before .before .before .before .before .before .before .before .before .before .before .before in
     let a = s .args in
     let H = matrixOf (a .shape) (a .list .now) in
     let f = c .before .before .before .before .before .before .before .list-only in
     let g = c .before .before .list-only2 in
-    let added = c .before .before .before .before .add-rows in
+    let added = c .before .before .before .before .add in
     let rows = f .last .1 .1 .1 .0 in
     let rows′ = g .last .1 .1 .1 .0 in
-    let mid = added .last .1 .1 .1 .1 .0 in (
-      places-parts H (s .pre .0) (onlyIn (a .was .now) (a .parity .now)) rows′ (g .result) (g .ensures),
-      ended-there H (s .pre .0) (a .was .now) (a .parity .now) (a .votes .now) (s .pre .3) rows (f .result) (f .ensures) mid (added .ensures) rows′ (g .result) (g .ensures),
+    let mid = added .last .1 .1 .1 .1 .1 .0 in (
+      s .pre .0,
+      s .pre .1,
+      listed-few H (s .pre .0) (onlyIn (a .was .now) (a .parity .now)) (only-small (a .parity .now) (a .was .now)) rows′ (g .result) (g .ensures),
+      ended-there H (s .pre .0) (a .was .now) (a .parity .now) (a .votes .now) (s .pre .4) rows (f .result) (f .ensures) mid (added .ensures) rows′ (g .result) (g .ensures),
     )
 
 returns : tie.Need-returns
@@ -52,12 +52,12 @@ returns c =
     let H = matrixOf (a .shape) (a .list .now) in
     let f = c .before .before .before .before .before .before .before .before .list-only in
     let g = c .before .before .before .list-only2 in
-    let added = c .before .before .before .before .before .add-rows in
+    let added = c .before .before .before .before .before .add in
     let rows = f .last .1 .1 .1 .0 in
     let rows′ = g .last .1 .1 .1 .0 in
-    let mid = added .last .1 .1 .1 .1 .0 in
-    let new = c .take-rows .last .1 .1 .1 .1 .0 in (
-      moved H (s .pre .0) (a .was .now) (a .parity .now) (a .votes .now) (s .pre .3) rows (f .result) (f .ensures) mid (added .ensures) rows′ (g .result) (g .ensures) new (c .take-rows .ensures),
+    let mid = added .last .1 .1 .1 .1 .1 .0 in
+    let new = c .take .last .1 .1 .1 .1 .1 .0 in (
+      moved H (s .pre .0) (a .was .now) (a .parity .now) (a .votes .now) (s .pre .4) rows (f .result) (f .ensures) mid (added .ensures) rows′ (g .result) (g .ensures) new (c .take .ensures),
       g .ensures .long,
     )
 
@@ -66,9 +66,8 @@ move-votes-spec =
     tie.close
     (tie.spec
     cast-m
-    cast-rho
     list-only-requires
-    add-rows-requires
+    add-requires
     list-only-requires-2
-    take-rows-requires
+    take-requires
     returns)

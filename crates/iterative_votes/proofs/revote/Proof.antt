@@ -25,26 +25,26 @@ move-votes-requires c κs = search needs
 
 vote-anew-requires : tie.Need-vote-anew-requires
 vote-anew-requires c κs =
-    let s = c .before .before .before .before .before .before .before .before in
+    let s = c .before .before .before .before .before .before .before .before .before in
     let a = s .args in
     let H = matrixOf (a .shape) (a .list .now) in
-    (s .pre .0, s .pre .2, s .pre .4, votes-past H (s .pre .0) (a .was .now) (a .votes .now) (s .pre .3))
+    (s .pre .0, s .pre .1, s .pre .3, s .pre .5, votes-past H (s .pre .0) (a .was .now) (a .votes .now) (s .pre .4))
 
 returns : tie.Need-returns
 returns c =
-    let s = c .before .before .before .before .before .before .before .before .before in
+    let s = c .before .before .before .before .before .before .before .before .before .before in
     let a = s .args in
     let H = matrixOf (a .shape) (a .list .now) in
     let counted = c .before .before .before .before .before .apart .ensures .1 in
-    (c .move-votes .ensures .0, counted ∙ failing-apart H (s .pre .0 .sizes .m-most) (a .parity .now) (replicate 16 0) (s .pre .2) refl, c .move-votes .ensures .1)
+    (c .move-votes .ensures .0, counted ∙ failing-apart H (s .pre .0 .sizes .m-most) (a .parity .now) (replicate 16 0) (s .pre .3) refl, c .move-votes .ensures .1)
 
 returns-2 : tie.Need-returns-2
 returns-2 c =
-    let s = c .before .before .before .before .before .before .before .before .before in
+    let s = c .before .before .before .before .before .before .before .before .before .before in
     let a = s .args in
     let H = matrixOf (a .shape) (a .list .now) in
     let counted = c .before .before .before .before .before .apart .ensures .1 in
-    (c .vote-anew .ensures .0, counted ∙ failing-apart H (s .pre .0 .sizes .m-most) (a .parity .now) (replicate 16 0) (s .pre .2) refl, c .vote-anew .ensures .1)
+    (c .vote-anew .ensures .0, counted ∙ failing-apart H (s .pre .0 .sizes .m-most) (a .parity .now) (replicate 16 0) (s .pre .3) refl, c .vote-anew .ensures .1)
 
 pub revote-spec : {M : Type 1} → statement M
 revote-spec =

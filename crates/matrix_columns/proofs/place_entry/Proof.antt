@@ -5,7 +5,7 @@ use native.Mathlib.Omega.{arith}
 use lib.ListN.{length, set, length-set}
 use lib.Seq.{getD-set-other}
 use Rattle.counting.specs.Places.{at}
-use Rattle.matrix_columns.proofs.Words.{one-bit}
+use Rattle.counting.proofs.Bits.{one-bit}
 use Rattle.matrix_columns.proofs.Filling.{entry-put}
 use borrow.Author.Needs.{needs}
 use Rattle.matrix_columns.proofs.place_entry.Statement.{statement}

@@ -43,7 +43,7 @@ until-done-requires : tie.Need-until-done-requires
 until-done-requires c κs =
     let f = c .before .before .before .before .before .before .before in
     let room : length (f .first .last .0) ≡ 65536 = omega arith in
-    lent-first (f .first .ensures (replicate 32736 0)) (length-replicate {A = ℕ} 32736 0) (length-replicate {A = ℕ} 19441 0)
+    lent-first (f .first .ensures (replicate 32736 0)) (length-replicate {A = ℕ} 32736 0) (length-replicate {A = ℕ} 35809 0)
     (sym (f .before .before .before .large-buffer .ensures)) room
 
 returns : tie.Need-returns

@@ -12,8 +12,7 @@ use Rattle.matrix.specs.Paper.Shapes.{matrixOf}
 use Rattle.quantiser_levels.specs.Paper.Samples.{Setting}
 use Rattle.quantiser_settings.specs.Paper.Settings.{settingOf}
 use Rattle.quantiser_settings.proofs.Ranges.{fits-reads}
-use Rattle.matrix_columns.proofs.Columns.{columns-sets}
-use Rattle.program_tables.proofs.Tables.{tables-long, tables-room, tables-table, tables-columns}
+use Rattle.program_tables.proofs.Tables.{tables-long, tables-room, tables-table, tables-sets}
 use Rattle.program_block.proofs.Started.{block-refused, block-lent, block-bits, block-answered}
 use Rattle.program_block.proofs.decode.Statement.{statement}
 use Rattle.program_block.proofs.decode.Tie as tie
@@ -25,7 +24,7 @@ lent s = matrixOf (s .args .shape) (s .args .list .now)
 abbrev by : tie.Start → Setting
 by s = settingOf (s .args .setting)
 
--- there is a table before the columns
+-- there is a table before the sets
 front : (s : tie.Start) → 2050 ≤ length (s .args .tables .now)
 front s = omega (arith, tables-room (lent s) (length (s .args .tables .now)) (omega (arith, ap length (s .pre .1), tables-long (lent s) (by s))))
 
@@ -94,7 +93,7 @@ run-requires c κs =
     let x = s .args .tables .now in
     let rest : length (drop 2050 x) ≤ length x - 2050 = omega (arith, length-drop 2050 x) in (
       block-lent (s .pre .0) (t .ensures) (c .before .before .before .if1 .left) refl refl (c .before .before .before .before .before .before .before .before .before .largest-of .ensures),
-      columns-sets (lent s) (s .pre .0 .decodable .matrix) _ (take-all (length x - 2050) (drop 2050 x) rest ∙ tables-columns (lent s) (by s) x (s .pre .1)),
+      take-all (length x - 2050) (drop 2050 x) rest ∙ tables-sets (lent s) (by s) x (s .pre .1),
     )
 
 pack-into-requires : tie.Need-pack-into-requires

@@ -33,7 +33,7 @@ abbrev by : tie.Start → Setting
 by s = settingOf (s .args .setting)
 
 abbrev start : tie.After-entries → tie.Start
-start c = c .before .before .before .before .before .before .before
+start c = c .before .before .before .before .before .before .before .before
 
 -- the blocks that came may be printed
 printable : (c : tie.After-entries)
@@ -49,6 +49,9 @@ printable c =
 cast-n : tie.Need-cast-n
 cast-n c = search needs
 
+cast-m : tie.Need-cast-m
+cast-m c = search needs
+
 at-once-requires : tie.Need-at-once-requires
 at-once-requires c κs = search needs
 
@@ -59,13 +62,19 @@ mul-want-2 : tie.Need-mul-want-2
 mul-want-2 c = search needs
 
 entries-requires : tie.Need-entries-requires
-entries-requires c κs = few-entries _ (c .before .before .before .before .before .before .pre .readable .0 .matrix .sizes)
+entries-requires c κs = few-entries _ (c .before .before .before .before .before .before .before .pre .readable .0 .matrix .sizes)
 
 mul-size : tie.Need-mul-size
 mul-size c = search needs
 
+mul-size-2 : tie.Need-mul-size-2
+mul-size-2 c = search needs
+
 add-size : tie.Need-add-size
 add-size c = search needs
+
+add-size-2 : tie.Need-add-size-2
+add-size-2 c = search needs
 
 slice-aggregate-chunk : tie.Need-slice-aggregate-chunk
 slice-aggregate-chunk c =
@@ -79,7 +88,7 @@ slice-aggregate-chunk-2 c =
     let e = c .before .before in
     let s = start e in
     let a = s .pre .readable .0 .matrix .sizes in
-    sym (length-take-le (2050 + 17 * s .args .shape .n) (s .args .tables .now) (omega (arith, s .pre .tables, a .n-most)))
+    sym (length-take-le (2050 + (17 * s .args .shape .n + 16 * s .args .shape .m)) (s .args .tables .now) (omega (arith, s .pre .tables, a .n-most, a .m-most)))
 
 chunk-requires : tie.Need-chunk-requires
 chunk-requires c κs =
@@ -87,7 +96,7 @@ chunk-requires c κs =
     let s = start e in
     let x = s .args .tables .now in (
       printable e,
-      subst (λ (k : ℕ). take (2050 + 17 * s .args .shape .n) x ≡ tablesOf (lent s k) (by s)) (sym (e .entries .ensures)) (tables-front (whole s) (by s) x (s .pre .held)),
+      subst (λ (k : ℕ). take (2050 + (17 * s .args .shape .n + 16 * s .args .shape .m)) x ≡ tablesOf (lent s k) (by s)) (sym (e .entries .ensures)) (tables-front (whole s) (by s) x (s .pre .held)),
     )
 
 run-over-requires : tie.Need-run-over-requires
@@ -155,12 +164,15 @@ after-blocks-spec =
     tie.close
     (tie.spec
     cast-n
+    cast-m
     at-once-requires
     mul-want
     mul-want-2
     entries-requires
     mul-size
+    mul-size-2
     add-size
+    add-size-2
     slice-aggregate-chunk
     slice-aggregate-chunk-2
     chunk-requires

@@ -1,4 +1,4 @@
--- `program_tables::build` meets its contract: the table over the front, the columns over what is behind it. Assumes nothing.
+-- `program_tables::build` meets its contract: the table over the front, the sets over what is behind it. Assumes nothing.
 use mathlib.Core.Path.{_≡_, sym}
 use mathlib.Core.List.{_++_}
 use Prim.Native.Nat.{_-_}

@@ -1,0 +1,2 @@
+-- What the contracts of `majority_bytes` cite.
+pub mod Bytes

@@ -1,0 +1,3 @@
+-- What the contracts of `majority_planes` cite.
+pub mod Planes
+pub mod Adders

@@ -1,0 +1,2 @@
+-- What the contracts of `majority_sets` cite.
+pub mod Sets

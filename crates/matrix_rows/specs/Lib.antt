@@ -1,0 +1,3 @@
+-- What the contracts of `matrix_rows` cite.
+pub mod Rows
+pub mod Filling

@@ -1,0 +1,2 @@
+-- What the contracts of `matrix_sets` cite.
+pub mod Sets
