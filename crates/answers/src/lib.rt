@@ -3,12 +3,14 @@
 // The functions by which every call asks its refusals stand here too: a refusal where a test passes, one question after another,
 // and refusal 7's lengths.
 // Rests on nothing. Document 01: "Refused for the input", "Refused for the session", and what an answer holds ("Iterative voting").
+#![tactic(auto)]
+
 ghost use Rattle.std.specs.Prelude.{◌≡◌};
 ghost use Rattle.answers.specs.Paper.Answers.{accepted, refuse_if, and_then, wrong_lengths, report, outcome_by};
 ghost use Rattle.answers.specs.Paper.Enums.{refusal_number, refusal_place, outcome_of, verdict_of, report_of};
 
 // Why a call is refused. A refusal that has a place carries it.
-#[derive(Drop)]
+#[derive(Clone, Copy)]
 pub enum Refusal {
     Sizes,
     Length,
@@ -30,7 +32,7 @@ pub enum Refusal {
 }
 
 // How decoding stands.
-#[derive(Drop)]
+#[derive(Clone, Copy)]
 pub enum Outcome {
     Decoded,
     Failed,
@@ -38,7 +40,7 @@ pub enum Outcome {
 }
 
 // What an accepted decoding call answers; and the count of changed bits, whose other numbers are 0.
-#[derive(Drop)]
+#[derive(Clone, Copy)]
 pub struct Report {
     pub outcome: Outcome,
     pub rounds: u16,
@@ -47,28 +49,28 @@ pub struct Report {
 }
 
 // The answer of a decoding call, or of the count of changed bits.
-#[derive(Drop)]
+#[derive(Clone, Copy)]
 pub enum Answer {
     Done(Report),
     Refused(Refusal),
 }
 
 // The answer of a check.
-#[derive(Drop)]
+#[derive(Clone, Copy)]
 pub enum Checked {
     Accepted,
     Refused(Refusal),
 }
 
 // The answer of a count of failing checks.
-#[derive(Drop)]
+#[derive(Clone, Copy)]
 pub enum Counted {
     Failing(u16),
     Refused(Refusal),
 }
 
 // The answer of a call that stores a sheet: how many bytes it wrote.
-#[derive(Drop)]
+#[derive(Clone, Copy)]
 pub enum Stored {
     Bytes(u32),
     Refused(Refusal),

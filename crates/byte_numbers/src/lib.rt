@@ -1,5 +1,7 @@
 // Numbers and single-format floats that stand in bytes, low byte first.
 // Rests on `counting`. Document 01: "Worked by hand", the paragraph on the program. Document 02: cards 3, 5 and 7.
+#![tactic(auto)]
+
 ghost use Rattle.std.specs.Prelude.{◌+◌, ◌/◌, ◌≤◌, ◌<◌, ◌≡◌, length};
 ghost use Rattle.std.specs.Float.{binary32};
 ghost use Rattle.std.specs.Float.Ieee.{of_bits};

@@ -1,5 +1,7 @@
 // At how many places two runs of bytes differ: the count of changed bits as a call.
 // Rests on `packed_distance` and `answers`. The count is document 02's, card 4; the call and what it refuses are this project's own.
+#![tactic(auto)]
+
 ghost use Rattle.std.specs.Prelude.{◌≡◌};
 ghost use Rattle.answers.specs.Paper.Enums.{said_of};
 ghost use Rattle.changed_bits.specs.Paper.Call.{changed_of};

@@ -1,4 +1,6 @@
 // The program on an input that shows how blocks end: decoded, failed, refused for a NaN, and cut short. Its output is the reference decoder's.
+#![tactic(auto)]
+
 fn main() {
     program::run();
 }

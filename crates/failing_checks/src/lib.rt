@@ -1,5 +1,7 @@
 // How many checks of a received word fail: the whole call.
 // Rests on `syndrome`, `matrix_check` and `packed_word`. Document 01: "The code and the block"; refusals 1 to 5, 7 and 9.
+#![tactic(auto)]
+
 ghost use Rattle.std.specs.Prelude.{◌≡◌, length};
 ghost use Rattle.answers.specs.Paper.Enums.{counted_of};
 ghost use Rattle.packed_word.specs.Paper.Packed.{bit_at, bytes_for};

@@ -1,5 +1,7 @@
 // Exported functions for tests and benchmarks: each answer is one number of 64 bits.
 // Rests on every decoder, on `changed_bits`, on `quantiser_widths`, on the calls for sheets and on `ffi_codes`. Design, section 4: the test face.
+#![tactic(auto)]
+
 ghost use Rattle.std.specs.Prelude.{◌≡◌, length};
 ghost use Rattle.answers.specs.Paper.Answers.{acceptance, after, written};
 ghost use Rattle.matrix.specs.Paper.Code.{matrix};

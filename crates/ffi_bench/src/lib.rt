@@ -1,6 +1,8 @@
 // The core of one-step voting and the replay of a lent index as exported functions, for the benchmark alone, which asks `mlgd_check` first.
 // An archive of its own: they are the exported functions with a `requires`, and no user links it.
 // Rests on `one_step`, on `matrix_index_replay`, on `ffi_codes`, and for one law on `ffi`. Design, section 4: the test face.
+#![tactic(auto)]
+
 ghost use Rattle.std.specs.Prelude.{◌≡◌, ◌≤◌, eqb};
 ghost use Rattle.counting.specs.Paper.Lists.{over};
 ghost use Rattle.packed_word.specs.Paper.Packed.{bit_at};

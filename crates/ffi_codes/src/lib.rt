@@ -1,5 +1,7 @@
 // What crosses the exported functions as numbers: an answer in one number of 64 bits, a setting, and a session record of eight numbers.
 // Rests on `answers`, `quantiser` and `session_record`. Design, section 4: the test face.
+#![tactic(auto)]
+
 ghost use Rattle.std.specs.Prelude.{◌≡◌, ◌+◌, ◌*◌, ◌≤◌, length};
 ghost use Rattle.answers.specs.Paper.Answers.{report, acceptance, after};
 ghost use Rattle.answers.specs.Paper.Enums.{refusal_number, refusal_place, report_of, said_of, verdict_of, counted_of, stored_of};

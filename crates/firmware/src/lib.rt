@@ -1,5 +1,7 @@
 // The face for the tufting firmware: iterative voting as one C function over numbers and byte slices.
 // Rests on `firmware_decoding`, `firmware_asking`, `firmware_codes` and `matrix_check`. Document 02: cards 3 and 7.
+#![tactic(auto)]
+
 ghost use Rattle.firmware_asking.specs.Paper.Asked.{face_matrix, face_setting};
 ghost use Rattle.firmware.specs.Paper.Face.{FacedAs};
 ghost use Rattle.firmware.specs.Paper.Claims.{FaceIterative, FaceRule, FaceAmple};

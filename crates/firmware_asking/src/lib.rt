@@ -1,5 +1,7 @@
 // What the firmware's face asks before it reads the list or the samples, and the setting that it is lent.
 // Rests on `ffi_codes`, `byte_numbers`, `quantiser`, `matrix_check` and `answers`. Document 02: cards 3 and 7.
+#![tactic(auto)]
+
 ghost use Rattle.std.specs.Prelude.{◌≡◌, cond, [], ◌≤◌};
 ghost use Rattle.std.specs.Float.{binary32};
 ghost use Rattle.std.specs.Float.Ieee.{of_bits};

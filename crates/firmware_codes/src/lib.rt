@@ -1,5 +1,7 @@
 // What leaves the firmware's face: the returned number, the report's eight bytes, the levels as bytes.
 // Rests on `answers`, `counting`, `byte_numbers` and, for the cells of levels, `quantiser_levels`. Document 02: cards 3 and 7.
+#![tactic(auto)]
+
 ghost use Rattle.std.specs.Prelude.{◌≡◌, ◌+◌, ◌*◌, ◌/◌, ◌%◌, ◌≤◌, length};
 ghost use Rattle.counting.specs.Paper.Lists.{over};
 ghost use Rattle.answers.specs.Paper.Enums.{refusal_number, refusal_place, report_of, said_of};

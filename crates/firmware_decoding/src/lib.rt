@@ -1,5 +1,7 @@
 // The core of the firmware's face: list and samples read from bytes, every refusal in its order, the decoding, and what leaves as bytes.
 // Rests on `firmware_asking`, `firmware_codes`, `byte_numbers`, `iterative_core`, `matrix_index`, `matrix_check` and `answers`. Document 02: cards 3 and 7.
+#![tactic(auto)]
+
 ghost use Rattle.std.specs.Prelude.{◌≤◌, length};
 ghost use Rattle.answers.specs.Paper.Answers.{accepted, refuse_at};
 ghost use Rattle.answers.specs.Paper.Enums.{report_of, said_of};

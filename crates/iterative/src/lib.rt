@@ -1,5 +1,7 @@
 // Reliability-based iterative majority-logic decoding of samples: the whole call.
 // Rests on `iterative_core`, `iterative_rule`, `matrix_index`, `quantiser` and `matrix_check`. Document 01: "Iterative voting"; refusals 1 to 8.
+#![tactic(auto)]
+
 ghost use Rattle.std.specs.Prelude.{◌≡◌};
 ghost use Rattle.answers.specs.Paper.Enums.{said_of};
 ghost use Rattle.matrix.specs.Paper.PlainCheck.{Accepted};

@@ -1,6 +1,8 @@
 // The count of changed bits where samples were lent: which places count, and how many of them a word has turned over.
 // A mark is the bit at opening, or 2 where the level at opening is 0: what a decoder keeps while its levels and bits move on.
 // Rests on `quantiser_levels` for the cells of levels, on `packed_distance`, `packed_word` and `counting`. Document 02: cards 4 and 6.
+#![tactic(auto)]
+
 ghost use Rattle.std.specs.Prelude.{◌≡◌, ℕ, ◌*◌, ◌-◌, ◌<◌, ◌≤◌, length};
 ghost use Rattle.counting.specs.Paper.Sum.{same};
 ghost use Rattle.counting.specs.Paper.Lists.{listed, over};

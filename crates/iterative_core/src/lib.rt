@@ -1,5 +1,7 @@
 // Iterative voting on a matrix, a setting and samples that are known to be accepted, and what is asked of setting and samples before.
 // Rests on `iterative_rounds`, `iterative_changed`, `quantiser` and `packed_word`. Document 01: "Iterative voting"; refusals 6 to 8. Document 02: card 6.
+#![tactic(auto)]
+
 ghost use Rattle.std.specs.Prelude.{◌≡◌, ◌≤◌, length};
 ghost use Rattle.answers.specs.Paper.Enums.{verdict_of, report_of};
 ghost use Rattle.matrix.specs.Paper.Shapes.{matrix_of};

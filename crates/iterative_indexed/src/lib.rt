@@ -1,5 +1,7 @@
 // Iterative voting that takes matrix and index: the index is trusted only after it is found to be the matrix's own.
 // Rests on `iterative`, `matrix_index_check` and `matrix_check`. Document 02: card 1; refusals 1 to 5, 10, 6 to 8.
+#![tactic(auto)]
+
 ghost use Rattle.std.specs.Prelude.{◌≡◌};
 ghost use Rattle.answers.specs.Paper.Enums.{said_of};
 ghost use Rattle.matrix.specs.Paper.Shapes.{matrix_of};

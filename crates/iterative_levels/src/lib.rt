@@ -1,6 +1,8 @@
 // Stored levels of bits: one pass of a round over them, and how they are kept between passes.
 // A level R from -L to L is kept as R + L: cutting at -L is then the subtraction that stops at 0.
 // Rests on `counting`, and on `quantiser_levels` for the cells of levels. Document 01: "Iterative voting", steps 4 to 6. Document 02: cards 2 and 7.
+#![tactic(auto)]
+
 ghost use Rattle.std.specs.Prelude.{◌≡◌, cond, min, ◌+◌, ◌-◌, ◌*◌, ◌<◌, ◌≤◌, eqb, nat_abs, length};
 ghost use Rattle.std.proofs.Math.IntN.{sub_ℕ};
 ghost use Rattle.counting.specs.Paper.Lists.{listed, over};

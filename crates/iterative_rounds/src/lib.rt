@@ -1,5 +1,7 @@
 // Rounds of reliability-based iterative majority-logic decoding: one round, and rounds until they end.
 // Rests on `iterative_levels`, `iterative_tally`, `majority_votes` and `matrix_degrees`. Document 01: "Iterative voting", steps 2 to 6; document 02: card 2.
+#![tactic(auto)]
+
 ghost use Rattle.std.specs.Prelude.{◌≡◌};
 ghost use Rattle.counting.specs.Places.{at};
 ghost use Rattle.matrix.specs.Paper.Shapes.{matrix_of};

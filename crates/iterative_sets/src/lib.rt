@@ -2,6 +2,8 @@
 // It is the way of whoever decodes many blocks by one matrix, as the program does: the sets are made once.
 // Rests on `syndrome_sets`, `syndrome_update`, `iterative_votes`, `iterative_levels`, `matrix_sets`, `matrix_columns`, and on the definitions of `matrix_rows` and the definitions and laws of `iterative_rounds`.
 // Document 01: "Iterative voting", steps 2 to 6; document 02: card 2.
+#![tactic(auto)]
+
 ghost use Rattle.std.specs.Prelude.{◌≡◌, ◌≤◌, length};
 ghost use Rattle.counting.specs.Paper.Lists.{listed, over};
 ghost use Rattle.counting.specs.Places.{at};

@@ -1,5 +1,7 @@
 // The votes of a word that follows another one: the parities of the checks are kept, and only those of flipped bits are turned over.
 // Rests on `syndrome_update`, `syndrome` and `majority_votes`. Document 01: "Iterative voting", steps 2 and 4.
+#![tactic(auto)]
+
 ghost use Rattle.std.specs.Prelude.{◌≡◌};
 ghost use Rattle.counting.specs.Places.{at};
 ghost use Rattle.matrix.specs.Paper.Code.{Word};

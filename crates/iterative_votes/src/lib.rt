@@ -1,6 +1,8 @@
 // The votes of the failing checks, kept from one word to the next: checks that began to fail add theirs, and those that no longer do take theirs away;
 // or all that fail vote anew, where these are no more.
 // Rests on `syndrome_sets`, `syndrome_rows` and `majority_sets`. Document 01: "Iterative voting", step 4.
+#![tactic(auto)]
+
 ghost use Rattle.std.specs.Prelude.{◌≡◌, ◌≤◌, length};
 ghost use Rattle.counting.specs.Paper.Lists.{listed, over};
 ghost use Rattle.matrix.specs.Paper.PlainCheck.{Accepted};

@@ -1,5 +1,7 @@
 // Votes counted in planes, brought to bytes: eight at a time, as those of the eight columns from a multiple of eight on stand at one place of a word's eight bytes.
 // Rests on the definitions of `majority_planes`. Document 01: "Iterative voting", step 4.
+#![tactic(auto)]
+
 ghost use Rattle.std.specs.Prelude.{◌≡◌, ℕ, ◌+◌, ◌*◌, ◌/◌, ◌%◌, ◌≤◌, ◌<◌, length};
 ghost use Rattle.counting.specs.Places.{at};
 ghost use Rattle.majority_planes.specs.Planes.{plane_value};

@@ -1,5 +1,7 @@
 // The votes on each bit by the rows of its column, which an index has: the failing checks among them.
 // Rests on `syndrome_update` and the definitions of `majority_logic`. Document 01: "One-step voting". Document 02: card 1.
+#![tactic(auto)]
+
 ghost use Rattle.std.specs.Prelude.{◌≤◌, ◌<◌, ◌≡◌, length};
 ghost use Rattle.counting.specs.Paper.Lists.{listed, over};
 ghost use Rattle.counting.specs.Places.{at};

@@ -1,5 +1,7 @@
 // The flips that votes decide.
 // Rests on the definitions of `majority_logic` and `matrix_degrees`. Document 01: "One-step voting"; document 02: card 2.
+#![tactic(auto)]
+
 ghost use Rattle.std.specs.Prelude.{◌≡◌, ℕ, ◌*◌, ◌<◌, ◌≤◌, ltb, length};
 ghost use Rattle.counting.specs.Places.{at};
 ghost use Rattle.majority_logic.specs.Paper.Votes.{flip_when};

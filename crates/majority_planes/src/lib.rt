@@ -1,12 +1,14 @@
 // Votes counted sixty-four columns at a time: the digits of their numbers stand in planes, and eight sets of columns are added by adders of whole words.
 // Rests on `counting`. Document 01: "Iterative voting", step 4.
+#![tactic(auto)]
+
 ghost use Rattle.std.specs.Prelude.{◌≡◌, ◌+◌, ◌*◌, ◌≤◌, ◌<◌, length};
 ghost use Rattle.counting.specs.Places.{at};
 ghost use Rattle.majority_planes.specs.Planes.{six_digits, sets_count, SetsAt, SixDigits, PlanesLaid};
 ghost use Rattle.majority_planes.specs.Adders.{odd_of, most_of, eight_bits, Grown, PlanePut, PlanesTo};
 
 // A word of each of six planes, the lowest digits first.
-#[derive(Drop)]
+#[derive(Clone, Copy)]
 struct Digits {
     a: u64,
     b: u64,

@@ -1,5 +1,7 @@
 // Votes of listed checks: where they are many and long, eight at a time by their rows as sets of columns; else one by one.
 // Rests on `majority_planes`, `majority_bytes`, `majority_votes` and on the definitions of `matrix_rows`. Document 01: "Iterative voting", step 4.
+#![tactic(auto)]
+
 ghost use Rattle.std.specs.Prelude.{◌≡◌, ℕ, ◌+◌, ◌-◌, ◌*◌, ◌≤◌, ◌<◌, length};
 ghost use Rattle.counting.specs.Paper.Lists.{listed, over};
 ghost use Rattle.counting.specs.Places.{at};

@@ -1,5 +1,7 @@
 // The votes of the failing checks on each bit.
 // Rests on `syndrome` and the definitions of `majority_logic`. Document 01: "One-step voting".
+#![tactic(auto)]
+
 ghost use Rattle.counting.specs.Places.{at, among};
 ghost use Rattle.matrix.specs.Paper.Code.{Word};
 ghost use Rattle.matrix.specs.Paper.PlainCheck.{Accepted};
@@ -11,7 +13,7 @@ use matrix_check::Shape;
 use syndrome::failing_rows;
 
 // Where voting stopped: how many rounds there were, and how many checks fail.
-#[derive(Drop)]
+#[derive(Clone, Copy)]
 pub struct Stop {
     pub rounds: u16,
     pub failing: u16,

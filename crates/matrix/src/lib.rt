@@ -1,11 +1,13 @@
 // The parity-check matrix: its sizes, the definitions over it, and what the matrix check is to say (specs/), with their laws (proofs/).
 // Rests on `counting` and `answers`; its one function reads an entry. Document 01: "The code and the block", "Refused for the input" 1 to 5. Document 02: card 2.
+#![tactic(auto)]
+
 ghost use Rattle.std.specs.Prelude.{◌<◌};
 ghost use Rattle.matrix.specs.Ordered.{Ordered, Column};
 ghost use Rattle.matrix.specs.Paper.Shapes.{matrix_of};
 
 // The sizes of a matrix: columns, rows, ones in each row, fewest ones in a column.
-#[derive(Drop)]
+#[derive(Clone, Copy)]
 pub struct Shape {
     pub n: u16,
     pub m: u16,

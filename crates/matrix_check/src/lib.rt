@@ -1,5 +1,7 @@
 // The matrix check: accepts the parity-check matrix or refuses it, and passes on its sizes.
 // Rests on `matrix`, `matrix_weights`, `matrix_meeting`, `matrix_overlap` and `answers`. Document 01: "The code and the block", "Refused for the input" 1 to 5. Document 02: card 2.
+#![tactic(auto)]
+
 ghost use Rattle.std.specs.Prelude.{◌≡◌, []};
 ghost use Rattle.counting.specs.Paper.Search.{first};
 ghost use Rattle.answers.specs.Paper.Enums.{verdict_of};

@@ -1,5 +1,7 @@
 // The columns of a matrix as sets of rows, sixty-four rows to a word, with the columns' weights behind them.
 // Rests on `matrix_check` and on the definitions of `syndrome_words`. Document 01: "Iterative voting", step 4.
+#![tactic(auto)]
+
 ghost use Rattle.std.specs.Prelude.{◌≡◌, ℕ, ◌+◌, ◌*◌, ◌/◌, ◌%◌, ◌^◌, ◌≤◌, ◌<◌, length};
 ghost use Rattle.counting.specs.Paper.Lists.{listed, over};
 ghost use Rattle.counting.specs.Places.{at};

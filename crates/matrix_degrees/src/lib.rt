@@ -1,5 +1,7 @@
 // The columns' weights: of an accepted matrix from its list, or from the starting places of its index.
 // Rests on `matrix`. Document 02: card 2.
+#![tactic(auto)]
+
 ghost use Rattle.std.specs.Prelude.{◌≡◌, ℕ, ◌+◌, ◌≤◌, ◌<◌, length, set};
 ghost use Rattle.counting.specs.Paper.Lists.{listed, over};
 ghost use Rattle.counting.specs.Places.{at};

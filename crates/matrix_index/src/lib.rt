@@ -1,5 +1,7 @@
 // The index of a matrix: the rows of each column, beside the list, from which a bit's checks are read off.
 // Rests on `matrix_degrees` and `matrix_check`. Document 02: cards 1 and 2.
+#![tactic(auto)]
+
 ghost use Rattle.std.specs.Prelude.{◌+◌, ◌≤◌, ◌<◌, ◌≡◌, length};
 ghost use Rattle.counting.specs.Paper.Lists.{listed, over};
 ghost use Rattle.counting.specs.Places.{at};

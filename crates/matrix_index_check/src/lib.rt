@@ -1,6 +1,8 @@
 // The index as a call, and what every call asks that takes matrix and index.
 // Rests on `matrix_index_replay`, `matrix_index`, `matrix_order`, `matrix_check`, `matrix_degrees` and `matrix_weights`.
 // Document 02: cards 1 and 2; refusals 1 to 5 and 10.
+#![tactic(auto)]
+
 ghost use Rattle.std.specs.Prelude.{◌≡◌, ℕ, ◌+◌, ◌≤◌, ◌<◌, length};
 ghost use Rattle.counting.specs.Places.{at};
 ghost use Rattle.answers.specs.Paper.Answers.{accepted};

@@ -2,6 +2,8 @@
 // looked at where it would be written. No number of it is used as a place before it is compared with the length.
 // Of the matrix only the order of its rows is asked: at the end each column's rows must reach just to where the next column starts.
 // Rests on `matrix_index`. Document 02: card 1, refusal 10; card 2.
+#![tactic(auto)]
+
 ghost use Rattle.std.specs.Prelude.{◌≤◌, ◌<◌, ◌&&◌, ◌≡◌, ltb, eqb, length};
 ghost use Rattle.counting.specs.Paper.Sum.{unequal};
 ghost use Rattle.counting.specs.Places.{at};

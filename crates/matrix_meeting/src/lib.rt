@@ -1,5 +1,7 @@
 // Refusal 5 in one pass: whether two rows have two columns in common. Which rows they are, the exact search of `matrix_overlap` finds.
 // Rests on `matrix`. Document 01: "Refused for the input" 5.
+#![tactic(auto)]
+
 ghost use Rattle.std.specs.Prelude.{◌≡◌, ◌+◌, ◌*◌, ◌<◌, ◌≤◌, length, get_or};
 ghost use Rattle.matrix.specs.Ordered.{Ordered};
 ghost use Rattle.matrix.specs.Paper.Shapes.{matrix_of};
@@ -9,7 +11,7 @@ ghost use Rattle.matrix_meeting.specs.Overlaps.{RowsSeen, part_overlaps, has_ove
 use matrix::{Shape, column};
 
 // The bits that were met in one word after another, and those of them that were met twice.
-#[derive(Drop)]
+#[derive(Clone, Copy)]
 struct Met {
     once: u64,
     twice: u64,

@@ -1,5 +1,7 @@
 // Refusal 3 as one question: whether every row ascends below n, asked without a branch at any entry. Which entry is bad, `matrix_weights` finds.
 // Rests on `matrix`. Document 01: "Refused for the input" 3.
+#![tactic(auto)]
+
 ghost use Rattle.std.specs.Prelude.{◌≡◌, not, ◌≤◌, length};
 ghost use Rattle.counting.specs.Paper.Search.{any_below};
 ghost use Rattle.counting.specs.Paper.Sum.{sum_below};

@@ -1,5 +1,7 @@
 // Refusal 5: the search over all pairs of rows for the first that shares two columns with a later one, in a matrix that has one.
 // Rests on `matrix`. Document 01: "Refused for the input" 5.
+#![tactic(auto)]
+
 ghost use Rattle.std.specs.Prelude.{◌≡◌, ◌<◌};
 ghost use Rattle.counting.specs.Paper.Search.{first};
 ghost use Rattle.matrix.specs.Paper.Code.{entry, common};

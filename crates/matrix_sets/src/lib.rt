@@ -1,5 +1,7 @@
 // A matrix as sets, both ways: its columns as sets of rows, with their weights, and behind them its rows as sets of columns.
 // Rests on `matrix_columns` and `matrix_rows`. Document 01: "Iterative voting", step 4.
+#![tactic(auto)]
+
 ghost use Rattle.std.specs.Prelude.{◌≡◌, ◌≤◌, length};
 ghost use Rattle.counting.specs.Paper.Lists.{over};
 ghost use Rattle.matrix.specs.Paper.PlainCheck.{Accepted};

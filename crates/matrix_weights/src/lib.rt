@@ -1,5 +1,7 @@
 // Refusals 3 and 4: one pass over the list for the first bad entry, which counts the columns' weights, and the first weight that is off.
 // Rests on `matrix`. Document 01: "Refused for the input" 3 and 4. Document 02: card 2.
+#![tactic(auto)]
+
 ghost use Rattle.std.specs.Prelude.{not, ◌||◌, ◌≡◌, ◌+◌, ◌<◌, ◌≤◌, leb, get_or, set};
 ghost use Rattle.counting.specs.Paper.Search.{any_below, first};
 ghost use Rattle.matrix.specs.Paper.Check.{within};

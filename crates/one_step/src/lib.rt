@@ -1,5 +1,7 @@
 // One-step majority-logic decoding of a received word: the whole call.
 // Rests on `one_step_core`, `syndrome` and `matrix_check`. Document 01: "One-step voting"; refusals 1 to 5, 7 and 9.
+#![tactic(auto)]
+
 ghost use Rattle.answers.specs.Paper.Enums.{said_of};
 ghost use Rattle.matrix.specs.Paper.PlainCheck.{Accepted};
 ghost use Rattle.matrix.specs.Paper.Shapes.{matrix_of};

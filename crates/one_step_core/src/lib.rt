@@ -1,6 +1,8 @@
 // One-step voting on a matrix and a received word that are known to be accepted.
 // Rests on `majority_votes`, `majority_flips`, `matrix_degrees`, `syndrome`, `packed_word`, `packed_distance` and `matrix_check`.
 // Document 01: "One-step voting"; document 02: card 2.
+#![tactic(auto)]
+
 ghost use Rattle.answers.specs.Paper.Enums.{report_of};
 ghost use Rattle.counting.specs.Places.{at};
 ghost use Rattle.matrix.specs.Paper.Code.{Word, weight};

@@ -1,6 +1,8 @@
 // One-step voting that takes matrix and index: the index is trusted only after it is found to be the matrix's own, and the votes are found by it.
 // Rests on `one_step_core`, `majority_columns`, `majority_flips`, `syndrome_update`, `matrix_index_check`, `matrix_degrees` and `matrix_check`.
 // Document 02: cards 1 and 2; refusals 1 to 5, 10, 7 and 9.
+#![tactic(auto)]
+
 ghost use Rattle.std.specs.Prelude.{◌≡◌};
 ghost use Rattle.answers.specs.Paper.Enums.{report_of, said_of};
 ghost use Rattle.counting.specs.Places.{at};

@@ -1,6 +1,8 @@
 // At how many places two runs of bytes differ: sixty-four places at a time, the last bytes singly.
 // Rests on `packed_word` and `counting`. Document 02, card 4; the named form: "64-bit word built from eight bytes, difference counted
 // with the language's ones count".
+#![tactic(auto)]
+
 ghost use Rattle.std.specs.Prelude.{◌≡◌, ◌+◌, ◌*◌, ◌-◌, ◌^◌, ◌<◌, ◌≤◌, length};
 ghost use Rattle.std.specs.Int.Bits.{bit_xor};
 ghost use Rattle.std.specs.Int.Count.{ones};

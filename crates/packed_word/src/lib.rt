@@ -1,6 +1,8 @@
 // Packed words: eight bits to a byte, bit 0 in the highest place of byte 0. One bit read, set and turned over, and the spare places; words
 // unpacked and packed.
 // Rests on `counting`. Document 01: "The code and the block"; the named form "by shift and mask".
+#![tactic(auto)]
+
 ghost use Rattle.std.specs.Prelude.{◌≡◌, ℕ, ◌+◌, ◌*◌, ◌/◌, ◌<◌, ◌≤◌, ltb, length};
 ghost use Rattle.counting.specs.Paper.Sum.{flag};
 ghost use Rattle.counting.specs.Paper.Lists.{over};

@@ -1,6 +1,8 @@
 // The program: the run over standard input and output.
 // Rests on `program_ends`, which decides, and on `program_io`, which reads and writes: what comes and goes is outside any contract.
 // Document 01: "Worked by hand", the paragraph on the program.
+#![tactic(auto)]
+
 ghost use Rattle.program_ends.specs.Replies.{awaited_of};
 ghost use Rattle.program.specs.Pieces.{PieceLent, Piece, RunDone};
 

@@ -1,5 +1,7 @@
 // One block of samples, as functions on slices: its answer and word, and its line.
 // Rests on `program_tables`, `program_samples`, `iterative_sets`, `iterative_changed`, `packed_word` and `program_text`, and on the laws of `iterative_core`. Document 01: "Worked by hand", the paragraph on the program.
+#![tactic(auto)]
+
 ghost use Rattle.std.specs.Prelude.{◌≡◌};
 ghost use Rattle.answers.specs.Paper.Enums.{said_of};
 ghost use Rattle.matrix.specs.Paper.Shapes.{matrix_of};

@@ -1,6 +1,8 @@
 // The stages of the run, as functions on slices: what the bytes that came say, what is awaited then, and how the run ends.
 // Rests on `program_turns`, `program_lines`, `program_input`, `program_tables`, `byte_numbers` and `program_text`. Nothing here reads or writes.
 // Document 01: "Worked by hand", the paragraph on the program.
+#![tactic(auto)]
+
 ghost use Rattle.std.specs.Prelude.{ℕ, ◌*◌, ◌≤◌, ◌≡◌, true, List, [], length, take};
 ghost use Rattle.matrix.specs.Paper.Shapes.{matrix_of};
 ghost use Rattle.quantiser_settings.specs.Paper.Settings.{setting_of};
@@ -15,7 +17,7 @@ use program_input::Opened;
 use quantiser::Setting;
 
 // What the run awaits: with the sizes that it has, the setting, and the number of the next block.
-#[derive(Drop)]
+#[derive(Clone, Copy)]
 pub enum Stage {
     AtSizes,
     AtList(Shape),
@@ -25,7 +27,7 @@ pub enum Stage {
 }
 
 // What follows: the stage, how many bytes it wants, and where the text in the output buffer ends.
-#[derive(Drop)]
+#[derive(Clone, Copy)]
 pub struct Next {
     pub stage: Stage,
     pub want: usize,

@@ -1,5 +1,7 @@
 // What the program's input begins with, as functions on bytes: the sizes and the setting, and what is asked of them.
 // Rests on `byte_numbers`, `quantiser`, `matrix_check` and `answers`. Document 01: "Worked by hand", the paragraph on the program.
+#![tactic(auto)]
+
 ghost use Rattle.std.specs.Prelude.{◌≤◌, ◌≡◌, not, [], length};
 ghost use Rattle.matrix.specs.Paper.Check.{sizes_fit};
 ghost use Rattle.matrix.specs.Paper.Shapes.{matrix_of};
@@ -14,7 +16,7 @@ use matrix_check::Shape;
 use quantiser::{Setting, Step};
 
 // How a run begins: with a setting, or refused.
-#[derive(Drop)]
+#[derive(Clone, Copy)]
 pub enum Opened {
     Ready(Setting),
     Refused(Refusal),

@@ -1,6 +1,8 @@
 // Standard input and output, by way of lent buffers.
 // Rests on `io` and `libc`, whose contracts say nothing of the bytes that come and go.
 // Document 01: "Worked by hand", the paragraph on the program.
+#![tactic(auto)]
+
 ghost use Rattle.std.specs.Prelude.{◌≤◌, ◌≡◌, length, drop};
 
 use libc::{STDIN_FILENO, STDOUT_FILENO};

@@ -1,5 +1,7 @@
 // The lines of blocks of samples, as functions on slices: line after line, and `short` at an end inside a block.
 // Rests on `program_block` and `program_text`; the tables are lent. Document 01: "Worked by hand", the paragraph on the program.
+#![tactic(auto)]
+
 ghost use Rattle.std.specs.Prelude.{◌≡◌, ◌+◌, ◌*◌};
 ghost use Rattle.matrix.specs.Paper.Shapes.{matrix_of};
 ghost use Rattle.quantiser_settings.specs.Paper.Settings.{setting_of};

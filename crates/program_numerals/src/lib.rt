@@ -1,6 +1,8 @@
 // Bytes, decimal numbers and hexadecimal words as text in a lent buffer.
 // Each function puts its text at a place of the buffer and answers the place after it.
 // Rests on `counting`. Document 01: "Worked by hand", the paragraph on the program.
+#![tactic(auto)]
+
 ghost use Rattle.std.specs.Prelude.{◌+◌, ◌*◌, ◌%◌, ◌≤◌, ◌<◌, ◌≡◌, [], ◌∷◌, ◌++◌, length};
 ghost use Rattle.program_numerals.specs.Paper.Numerals.{ascii, digit, decimal, hex};
 ghost use Rattle.program_numerals.specs.Texts.{Room, Put, PutWithin};

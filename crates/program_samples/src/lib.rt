@@ -1,5 +1,7 @@
 // The samples of a block as a running decoder keeps them: by guesses where the table confirms each of them, else by the exact rule.
 // Rests on `quantiser_guess`, `quantiser_table`, and on `byte_numbers`, `quantiser`, `iterative_levels` and `iterative_changed`. Document 01: "Samples and levels"; refusal 8.
+#![tactic(auto)]
+
 ghost use Rattle.std.specs.Prelude.{◌≡◌};
 ghost use Rattle.quantiser_settings.specs.Paper.Settings.{setting_of};
 ghost use Rattle.quantiser_table.specs.Least.{table_of};

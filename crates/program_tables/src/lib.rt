@@ -1,5 +1,7 @@
 // What a run keeps for its blocks: the table of least magnitudes of its setting, and behind it its matrix as sets.
 // Rests on `quantiser_table` and `matrix_sets`. Document 01: "Worked by hand", the paragraph on the program.
+#![tactic(auto)]
+
 ghost use Rattle.std.specs.Prelude.{◌≡◌, true, ◌≤◌, length};
 ghost use Rattle.counting.specs.Paper.Lists.{over};
 ghost use Rattle.matrix.specs.Paper.PlainCheck.{Accepted};

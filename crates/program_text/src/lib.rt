@@ -1,6 +1,8 @@
 // The program's lines as text in a lent buffer: heading, `short`, refusals, and a block's line.
 // Each function puts its text at a place of the buffer and answers the place after it.
 // Rests on `program_numerals` and `answers`. Document 01: "Worked by hand", the paragraph on the program.
+#![tactic(auto)]
+
 ghost use Rattle.std.specs.Prelude.{◌+◌, ◌*◌, ◌≤◌, ◌++◌, length};
 ghost use Rattle.answers.specs.Paper.Enums.{refusal_number, refusal_place, outcome_of, report_of, said_of};
 ghost use Rattle.program_numerals.specs.Paper.Numerals.{ascii};

@@ -1,5 +1,7 @@
 // How many blocks of the input are read at once. The stages of the run (`program_ends`) read turn by turn.
 // Document 01: "Worked by hand", the paragraph on the program.
+#![tactic(auto)]
+
 ghost use Rattle.std.specs.Prelude.{min, ◌≤◌, ◌≡◌};
 ghost use Rattle.program_turns.specs.Turns.{AtOnce};
 

@@ -1,5 +1,7 @@
 // Samples to levels and hard bits, exactly: all samples of a block. The setting is passed on.
 // Rests on `quantiser_settings`, `quantiser_levels`, `packed_word` and `answers`. Document 01: "Samples and levels"; refusals 6, 7 and 8.
+#![tactic(auto)]
+
 ghost use Rattle.std.specs.Prelude.{◌≡◌};
 ghost use Rattle.answers.specs.Paper.Enums.{verdict_of};
 ghost use Rattle.quantiser_levels.specs.Paper.Samples.{first_not_finite, too_short};

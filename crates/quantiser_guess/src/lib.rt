@@ -1,5 +1,7 @@
 // Levels of samples without a division: a guess in floating point, which is taken only where the table of least magnitudes confirms it.
 // Rests on `quantiser_table` and `byte_numbers`; on `iterative_levels` and `iterative_changed` for what a running decoder keeps. Document 01: "Samples and levels".
+#![tactic(auto)]
+
 ghost use Rattle.std.specs.Prelude.{◌≡◌, true, not, ◌+◌, ◌*◌, ◌<◌, ◌≤◌, T, length};
 ghost use Rattle.std.specs.Float.Ieee.Scale.{finite};
 ghost use Rattle.counting.specs.Paper.Search.{any_below};

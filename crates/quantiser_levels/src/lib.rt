@@ -1,5 +1,7 @@
 // The level and the hard bit of one sample, exactly.
 // Rests on `counting`, `answers` and `packed_word` for its definitions. Document 01: "Samples and levels".
+#![tactic(auto)]
+
 ghost use Rattle.std.specs.Prelude.{◌≡◌, min, ◌-◌, ◌*◌, ◌^◌, ◌<◌, ◌≤◌, T};
 ghost use Rattle.std.specs.Float.Ieee.Scale.{finite};
 ghost use Rattle.quantiser_levels.specs.Paper.Samples.{most_bits, largest, nearest_whole, signed, hard_of};
@@ -12,7 +14,7 @@ pub type Cell = i16;
 const TIE: u64 = 0;
 
 // A finite float: its sign, and its magnitude as sig * 2 ^ shift units of 2 ^ -149.
-#[derive(Drop)]
+#[derive(Clone, Copy)]
 pub struct Parts {
     pub negative: bool,
     pub sig: u64,
@@ -20,7 +22,7 @@ pub struct Parts {
 }
 
 // What the levels of one setting have in common: the gain, the largest level, and the step's magnitude as in `Parts`.
-#[derive(Drop)]
+#[derive(Clone, Copy)]
 pub struct Scale {
     pub gain: u64,
     pub top: u64,

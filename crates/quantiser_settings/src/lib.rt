@@ -1,5 +1,7 @@
 // The setting: the bit width, the round limit and the step, whether they are in range, and the scale of its samples.
 // Rests on `quantiser_levels`. Document 01: "Samples and levels"; refusal 6.
+#![tactic(auto)]
+
 ghost use Rattle.std.specs.Prelude.{◌≡◌, true};
 ghost use Rattle.quantiser_levels.specs.Paper.Samples.{ranges_fit, step_fits, setting_fits};
 ghost use Rattle.quantiser_levels.specs.Scale.{Scaled};
@@ -12,14 +14,14 @@ use quantiser_levels::{Scale, largest_of, take_apart};
 pub const MOST_BITS: u16 = 12;
 
 // The step: a level step or a full scale.
-#[derive(Drop)]
+#[derive(Clone, Copy)]
 pub enum Step {
     Level(f32),
     FullScale(f32),
 }
 
 // The bit width, the round limit and the step.
-#[derive(Drop)]
+#[derive(Clone, Copy)]
 pub struct Setting {
     pub bits: u16,
     pub limit: u16,

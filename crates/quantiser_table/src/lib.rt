@@ -1,5 +1,7 @@
 // A table of the least magnitude of each level, made by the exact rule: the level of a sample can be looked up in it without a division.
 // Rests on `quantiser_settings` and `quantiser_levels`, and on `byte_numbers` for its laws. Document 01: "Samples and levels".
+#![tactic(auto)]
+
 ghost use Rattle.std.specs.Prelude.{◌≡◌, true, ◌-◌, ◌*◌, ◌^◌, ◌<◌, ◌≤◌, length};
 ghost use Rattle.quantiser_levels.specs.Paper.Samples.{setting_fits};
 ghost use Rattle.quantiser_levels.specs.Scale.{Narrow};
@@ -19,7 +21,7 @@ fn magnitude_at(scale: Scale, p: u32) -> u16
 }
 
 // Where the least pattern of a level is looked for: from `from` on, and not beyond `to`.
-#[derive(Drop)]
+#[derive(Clone, Copy)]
 struct Span {
     from: u32,
     to: u32,

@@ -1,5 +1,7 @@
 // Stored levels of eight bits brought over to sixteen, and taken back.
 // Rests on `answers`, `counting` and, for the cells of levels, `quantiser_levels`. Document 02: card 7; refusals 7 and 13.
+#![tactic(auto)]
+
 ghost use Rattle.std.specs.Prelude.{◌≡◌, ◌≤◌, ltb, nat_abs, length};
 ghost use Rattle.counting.specs.Paper.Lists.{over};
 ghost use Rattle.answers.specs.Paper.Enums.{verdict_of};

@@ -1,5 +1,7 @@
 // What opening a session and a step of it ask (specs/), and the questions of a step in their order.
 // Rests on `session_record`, `quantiser_levels`, `quantiser_settings`, `syndrome`, `packed_word` and `matrix_check`. Document 01: "Refused for the session"; refusals 1 to 9.
+#![tactic(auto)]
+
 ghost use Rattle.std.specs.Prelude.{◌≡◌, ◌≤◌, [], nat_abs, length};
 ghost use Rattle.counting.specs.Paper.Search.{any_below};
 ghost use Rattle.answers.specs.Paper.Enums.{verdict_of};

@@ -1,5 +1,7 @@
 // Opening a session on the caller's own record, or on a copy of it.
 // Rests on `session_opening` and `session_record`. Document 01: "Rounds one at a time".
+#![tactic(auto)]
+
 ghost use Rattle.matrix.specs.Paper.Shapes.{matrix_of};
 ghost use Rattle.quantiser_settings.specs.Paper.Settings.{setting_of};
 ghost use Rattle.session_asking.specs.Paper.Asked.{held_of};

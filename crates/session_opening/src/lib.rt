@@ -1,5 +1,7 @@
 // Opening a session, by value: what it asks, and the record in and out.
 // Rests on `session`, `session_asking`, `session_record`, `iterative_core`, `quantiser`, `packed_word`, `syndrome` and `matrix_check`. Document 01: "Rounds one at a time"; refusals 1 to 8.
+#![tactic(auto)]
+
 ghost use Rattle.std.specs.Prelude.{◌≡◌};
 ghost use Rattle.answers.specs.Paper.Enums.{verdict_of};
 ghost use Rattle.matrix.specs.Paper.Shapes.{matrix_of};

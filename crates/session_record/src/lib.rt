@@ -1,5 +1,7 @@
 // The caller's record of a session, and what a round or a refusal leaves in it.
 // Rests on `answers` and `matrix_check`. Document 01: "Rounds one at a time".
+#![tactic(auto)]
+
 ghost use Rattle.std.specs.Prelude.{◌≡◌, []};
 ghost use Rattle.answers.specs.Paper.Answers.{refusal, report};
 ghost use Rattle.answers.specs.Paper.Enums.{refusal_number, refusal_place, outcome_of, said_of};
@@ -11,7 +13,7 @@ use answers::{Answer, Outcome, Refusal, Report};
 use matrix_check::Shape;
 
 // How a session stands.
-#[derive(Drop)]
+#[derive(Clone, Copy)]
 pub enum State {
     Empty,
     Working,
@@ -20,14 +22,14 @@ pub enum State {
 }
 
 // What stays through a session: bit width and round limit.
-#[derive(Drop)]
+#[derive(Clone, Copy)]
 pub struct Course {
     pub bits: u16,
     pub limit: u16,
 }
 
 // The caller's record of a session: its state, bit width, round limit, round and sizes.
-#[derive(Drop)]
+#[derive(Clone, Copy)]
 pub struct Session {
     pub state: State,
     pub bits: u16,
@@ -40,7 +42,7 @@ pub struct Session {
 }
 
 // What a call leaves: the record, and its answer.
-#[derive(Drop)]
+#[derive(Clone, Copy)]
 pub struct Turn {
     pub session: Session,
     pub answer: Answer,

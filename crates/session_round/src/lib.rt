@@ -1,6 +1,8 @@
 // One step of a session, by value: the record in and out.
 // Rests on `session`, `session_asking`, `session_record`, `iterative_core`, `iterative_levels`, `iterative_changed`, `packed_word`, `majority_votes`, `syndrome` and `matrix_degrees`.
 // Document 01: "Rounds one at a time"; document 02: cards 2 and 6.
+#![tactic(auto)]
+
 ghost use Rattle.std.specs.Prelude.{◌≡◌, ◌*◌, length};
 ghost use Rattle.matrix.specs.Paper.Code.{weight};
 ghost use Rattle.matrix.specs.Paper.PlainCheck.{Accepted};

@@ -1,5 +1,7 @@
 // One step of a session on the caller's own record, or on a copy of it.
 // Rests on `session_round` and `session_record`. Document 01: "Rounds one at a time"; document 02: card 6.
+#![tactic(auto)]
+
 ghost use Rattle.matrix.specs.Paper.Shapes.{matrix_of};
 ghost use Rattle.session_asking.specs.Paper.Asked.{held_of};
 ghost use Rattle.session.specs.Paper.Steps.{step_of};

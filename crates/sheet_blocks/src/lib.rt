@@ -1,5 +1,7 @@
 // Refusal 12 as one question: whether an accepted matrix is a grid of blocks of size z, each zero or a shifted identity.
 // Rests on `sheet` and `matrix_check`. Document 02: card 5.
+#![tactic(auto)]
+
 ghost use Rattle.std.specs.Prelude.{◌+◌, ◌/◌, ◌%◌, ◌<◌, ◌≡◌, length};
 ghost use Rattle.counting.specs.Paper.Sum.{sum_below};
 ghost use Rattle.matrix.specs.Paper.PlainCheck.{Accepted};

@@ -1,5 +1,7 @@
 // Refusal 11: whether bytes are a circulant sheet, and what a sheet's heading and map say.
 // Rests on `sheet`, `packed_word`, `byte_numbers` and `counting`. Document 02: card 5.
+#![tactic(auto)]
+
 ghost use Rattle.std.specs.Prelude.{◌≡◌, not, ◌||◌, ◌+◌, ◌*◌, ◌≤◌, ◌<◌, eqb, length};
 ghost use Rattle.packed_word.specs.Paper.Packed.{bytes_for};
 ghost use Rattle.byte_numbers.specs.Paper.Numbers.{number16};
@@ -7,7 +9,7 @@ ghost use Rattle.sheet.specs.Paper.Sheet.{map_bit, sheet_length, spare_map, shif
 ghost use Rattle.sheet_bytes.specs.Parts.{Headed, Mapped, set_from, wrong_by_first};
 
 // The numbers that a sheet starts with: block rows, block columns and block size, each of 16 bits.
-#[derive(Drop)]
+#[derive(Clone, Copy)]
 pub struct Heading {
     pub rows: usize,
     pub columns: usize,

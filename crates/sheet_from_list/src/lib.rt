@@ -1,5 +1,7 @@
 // List to sheet as a call: what is asked before, and the sheet in a lent buffer.
 // Rests on `sheet_store`, `sheet_blocks` and `matrix_check`. Document 02: card 5; refusals 1 to 5, 12 and 7.
+#![tactic(auto)]
+
 ghost use Rattle.std.specs.Prelude.{true, ◌≡◌};
 ghost use Rattle.answers.specs.Paper.Enums.{stored_of};
 ghost use Rattle.matrix.specs.Paper.PlainCheck.{Accepted};

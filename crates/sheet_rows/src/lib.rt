@@ -1,5 +1,7 @@
 // The list of a sheet: its rows written one after the other, and the fewest set places of a block column.
 // Rests on `sheet_bytes`, `sheet` and `byte_numbers`. Document 02: card 5.
+#![tactic(auto)]
+
 ghost use Rattle.std.specs.Prelude.{min, ◌+◌, ◌*◌, ◌%◌, ◌≤◌, ◌<◌, ◌≡◌, length};
 ghost use Rattle.counting.specs.Paper.Lists.{listed, over};
 ghost use Rattle.counting.specs.Paper.Sum.{least};

@@ -1,5 +1,7 @@
 // Writing the sheet of a matrix: its heading, its map of set blocks, its shifts.
 // Rests on `sheet`, `matrix_check`, `matrix`, `packed_word` and `byte_numbers`. Document 02: card 5.
+#![tactic(auto)]
+
 ghost use Rattle.std.specs.Prelude.{ℕ, ◌+◌, ◌*◌, ◌/◌, ◌≤◌, ◌<◌, ◌≡◌, true, List, length, replicate};
 ghost use Rattle.std.proofs.lemmas.List.Edits.{sets};
 ghost use Rattle.counting.specs.Paper.Joined.{joined};

@@ -1,5 +1,7 @@
 // A sheet turned into a list: sizes and list are made, checked as any others, and only then written.
 // Rests on `sheet_rows`, `sheet_bytes`, `matrix_index`, `matrix_check` and `answers`. Document 02: card 5; refusals 11, 1 to 5 and 7.
+#![tactic(auto)]
+
 ghost use Rattle.std.specs.Prelude.{◌≤◌, ◌≡◌, [], length};
 ghost use Rattle.counting.specs.Paper.Lists.{over};
 ghost use Rattle.answers.specs.Paper.Enums.{verdict_of};

@@ -1,5 +1,7 @@
 // The syndrome of a word: which parity checks fail, and how many; and what every call asks of a received word.
 // Rests on `matrix_check` and `packed_word`. Document 01: "The code and the block"; refusals 7 and 9.
+#![tactic(auto)]
+
 ghost use Rattle.std.specs.Prelude.{◌≡◌, ℕ, ◌%◌, ◌<◌, ◌≤◌, length};
 ghost use Rattle.answers.specs.Paper.Enums.{verdict_of};
 ghost use Rattle.counting.specs.Paper.Lists.{listed, over};

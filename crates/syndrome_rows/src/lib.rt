@@ -1,5 +1,7 @@
 // The checks that one set has and another has not, listed.
 // Rests on the definitions of `syndrome_words` and `syndrome`. Document 01: "Iterative voting", step 4.
+#![tactic(auto)]
+
 ghost use Rattle.std.specs.Prelude.{◌≤◌, ◌≡◌, length};
 ghost use Rattle.syndrome.specs.Places.{Places};
 ghost use Rattle.syndrome_rows.specs.Words.{OnesListed, OnesFit};

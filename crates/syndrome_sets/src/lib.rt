@@ -1,5 +1,7 @@
 // The set of failing checks of a word that follows another one: a flipped bit turns over its column's checks, sixty-four at a time.
 // Rests on the definitions of `syndrome_words`, and for its laws on those of `syndrome_update` and `syndrome`. Document 01: "Iterative voting", steps 2 and 4.
+#![tactic(auto)]
+
 ghost use Rattle.std.specs.Prelude.{◌≡◌, ℕ, ◌+◌, ◌*◌, ◌≤◌, ◌<◌, length};
 ghost use Rattle.std.specs.Int.Bits.{bit_xor};
 ghost use Rattle.std.specs.Int.Count.{ones};

@@ -1,5 +1,7 @@
 // The parities of the checks of a word that follows another one: those of the flipped bits' checks are turned over, by the index.
 // Rests on `matrix_index` and `syndrome`. Document 01: "Iterative voting", steps 2 and 4. Document 02: card 1.
+#![tactic(auto)]
+
 ghost use Rattle.std.specs.Prelude.{ℕ, ◌+◌, ◌≤◌, ◌<◌, ◌≡◌, length};
 ghost use Rattle.counting.specs.Paper.Sum.{sum_below};
 ghost use Rattle.counting.specs.Places.{at, among};
