@@ -1,6 +1,9 @@
 // The program on an input that shows how blocks end: decoded, failed, refused for a NaN, and cut short. Its output is the reference decoder's.
 #![tactic(auto)]
 
-fn main() {
-    program::run();
+use std::io;
+
+fn main(rt: HostRuntime) -> io::Result<()> {
+    let mut from = rt.stdin();
+    program::run(&mut from, &rt)
 }

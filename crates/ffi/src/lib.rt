@@ -34,8 +34,7 @@ use quantiser_widths::Old;
 const NO_RECORD: u64 = 458752;
 
 // The matrix check.
-#[unsafe(no_mangle)]
-pub extern "C" fn mlgd_check(n: u16, m: u16, rho: u16, gamma: u16, list: &[u16]) -> u64
+pub fn mlgd_check(n: u16, m: u16, rho: u16, gamma: u16, list: &[u16]) -> u64
     ensures { result ≡ code_of (after (check_of (matrix n m rho gamma list.now)) acceptance) }
 {
     let shape = Shape { n, m, rho, gamma };
@@ -43,15 +42,7 @@ pub extern "C" fn mlgd_check(n: u16, m: u16, rho: u16, gamma: u16, list: &[u16])
 }
 
 // The count of failing checks in a received word.
-#[unsafe(no_mangle)]
-pub extern "C" fn mlgd_failing(
-    n: u16,
-    m: u16,
-    rho: u16,
-    gamma: u16,
-    list: &[u16],
-    received: &[u8],
-) -> u64
+pub fn mlgd_failing(n: u16, m: u16, rho: u16, gamma: u16, list: &[u16], received: &[u8]) -> u64
     ensures { result ≡ code_of (failing_of (matrix n m rho gamma list.now) received.now) }
 {
     let shape = Shape { n, m, rho, gamma };
@@ -59,16 +50,14 @@ pub extern "C" fn mlgd_failing(
 }
 
 // The count of places at which two runs of bytes differ.
-#[unsafe(no_mangle)]
-pub extern "C" fn mlgd_changed(a: &[u8], b: &[u8]) -> u64
+pub fn mlgd_changed(a: &[u8], b: &[u8]) -> u64
     ensures { result ≡ code_of (changed_of a.now b.now) }
 {
     answer_code(changed_bits::changed(a, b))
 }
 
 // One-step voting.
-#[unsafe(no_mangle)]
-pub extern "C" fn mlgd_one_step(
+pub fn mlgd_one_step(
     n: u16,
     m: u16,
     rho: u16,
@@ -86,8 +75,7 @@ pub extern "C" fn mlgd_one_step(
 }
 
 // The quantiser.
-#[unsafe(no_mangle)]
-pub extern "C" fn mlgd_quantise(
+pub fn mlgd_quantise(
     bits: u16,
     limit: u16,
     kind: u16,
@@ -103,8 +91,7 @@ pub extern "C" fn mlgd_quantise(
 }
 
 // Old stored levels, of eight bits, brought over.
-#[unsafe(no_mangle)]
-pub extern "C" fn mlgd_widen(old: &[Old], levels: &mut [Cell]) -> u64
+pub fn mlgd_widen(old: &[Old], levels: &mut [Cell]) -> u64
     ensures answer { result ≡ code_of (after (widen_verdict old.now (length levels.old)) acceptance) }
     ensures levels { levels.new ≡ written (widen_verdict old.now (length levels.old)) old.now levels.old }
 {
@@ -113,8 +100,7 @@ pub extern "C" fn mlgd_widen(old: &[Old], levels: &mut [Cell]) -> u64
 }
 
 // And taken back.
-#[unsafe(no_mangle)]
-pub extern "C" fn mlgd_narrow(levels: &[Cell], old: &mut [Old]) -> u64
+pub fn mlgd_narrow(levels: &[Cell], old: &mut [Old]) -> u64
     ensures answer { result ≡ code_of (after (narrow_verdict levels.now (length old.old)) acceptance) }
     ensures old { old.new ≡ written (narrow_verdict levels.now (length old.old)) levels.now old.old }
 {
@@ -123,8 +109,7 @@ pub extern "C" fn mlgd_narrow(levels: &[Cell], old: &mut [Old]) -> u64
 }
 
 // Iterative voting.
-#[unsafe(no_mangle)]
-pub extern "C" fn mlgd_iterative(
+pub fn mlgd_iterative(
     n: u16,
     m: u16,
     rho: u16,
@@ -153,15 +138,7 @@ pub extern "C" fn mlgd_iterative(
 }
 
 // The index of a matrix.
-#[unsafe(no_mangle)]
-pub extern "C" fn mlgd_index(
-    n: u16,
-    m: u16,
-    rho: u16,
-    gamma: u16,
-    list: &[u16],
-    index: &mut [u16],
-) -> u64
+pub fn mlgd_index(n: u16, m: u16, rho: u16, gamma: u16, list: &[u16], index: &mut [u16]) -> u64
     ensures answer { result ≡ code_of (after (index_verdict (matrix n m rho gamma list.now) (length index.old)) acceptance) }
     ensures index { index.new ≡ written (index_verdict (matrix n m rho gamma list.now) (length index.old)) (index_of (matrix n m rho gamma list.now)) index.old }
 {
@@ -171,8 +148,7 @@ pub extern "C" fn mlgd_index(
 }
 
 // A sheet turned into sizes and list.
-#[unsafe(no_mangle)]
-pub extern "C" fn mlgd_sheet_to_list(sheet: &[u8], sizes: &mut [u16], list: &mut [u16]) -> u64
+pub fn mlgd_sheet_to_list(sheet: &[u8], sizes: &mut [u16], list: &mut [u16]) -> u64
     ensures answer { result ≡ code_of (to_list_of sheet.now (length sizes.old) (length list.old)) }
     ensures sizes { sizes.new ≡ written (to_list_verdict sheet.now (length sizes.old) (length list.old)) (sizes_of (matrix_of_sheet sheet.now)) sizes.old }
     ensures list { list.new ≡ written (to_list_verdict sheet.now (length sizes.old) (length list.old)) (matrix_of_sheet sheet.now).list list.old }
@@ -182,8 +158,7 @@ pub extern "C" fn mlgd_sheet_to_list(sheet: &[u8], sizes: &mut [u16], list: &mut
 }
 
 // A list turned into its sheet with block size z.
-#[unsafe(no_mangle)]
-pub extern "C" fn mlgd_list_to_sheet(
+pub fn mlgd_list_to_sheet(
     n: u16,
     m: u16,
     rho: u16,
@@ -201,8 +176,7 @@ pub extern "C" fn mlgd_list_to_sheet(
 }
 
 // One-step voting by matrix and index.
-#[unsafe(no_mangle)]
-pub extern "C" fn mlgd_one_step_indexed(
+pub fn mlgd_one_step_indexed(
     n: u16,
     m: u16,
     rho: u16,
@@ -221,8 +195,7 @@ pub extern "C" fn mlgd_one_step_indexed(
 }
 
 // Iterative voting by matrix and index.
-#[unsafe(no_mangle)]
-pub extern "C" fn mlgd_iterative_indexed(
+pub fn mlgd_iterative_indexed(
     n: u16,
     m: u16,
     rho: u16,
@@ -246,8 +219,7 @@ pub extern "C" fn mlgd_iterative_indexed(
 }
 
 // Opening a session.
-#[unsafe(no_mangle)]
-pub extern "C" fn mlgd_open(
+pub fn mlgd_open(
     cells: &mut [u16],
     n: u16,
     m: u16,
@@ -275,8 +247,7 @@ pub extern "C" fn mlgd_open(
 }
 
 // One step of a session. `opened` are the levels that the opening wrote.
-#[unsafe(no_mangle)]
-pub extern "C" fn mlgd_step(
+pub fn mlgd_step(
     cells: &mut [u16],
     n: u16,
     m: u16,

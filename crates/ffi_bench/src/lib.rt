@@ -18,8 +18,7 @@ use ffi_codes::answer_code;
 use matrix_check::Shape;
 
 // One-step voting on an accepted matrix, a word and a buffer that suit it. Only the benchmark calls it.
-#[unsafe(no_mangle)]
-pub extern "C" fn mlgd_one_step_accepted(
+pub fn mlgd_one_step_accepted(
     n: u16,
     m: u16,
     rho: u16,
@@ -38,15 +37,7 @@ pub extern "C" fn mlgd_one_step_accepted(
 }
 
 // The replay of a lent index against a matrix whose rows are in order: 1 where it is the matrix's own, else 0. Only the benchmark calls it.
-#[unsafe(no_mangle)]
-pub extern "C" fn mlgd_replay(
-    n: u16,
-    m: u16,
-    rho: u16,
-    gamma: u16,
-    list: &[u16],
-    index: &[u16],
-) -> u64
+pub fn mlgd_replay(n: u16, m: u16, rho: u16, gamma: u16, list: &[u16], index: &[u16]) -> u64
     requires { Ordered (matrix n m rho gamma list.now) }
     ensures { Replayed (matrix n m rho gamma list.now) index.now (eqb result 1) × (result ≤ 1) }
 {

@@ -11,8 +11,7 @@ use firmware_decoding::decode;
 use matrix_check::Shape;
 
 // Iterative voting for the tufting firmware. The word, the levels and the report are written in either outcome; a refused call writes nothing.
-#[unsafe(no_mangle)]
-pub extern "C" fn mlgd_decode(
+pub fn mlgd_decode(
     n: u16,
     m: u16,
     rho: u16,

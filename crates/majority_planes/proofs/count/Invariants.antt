@@ -1,0 +1,14 @@
+-- `majority_planes::count`. The loop's invariant: the planes have the counts in the words before word 2 h.
+use mathlib.Core.Path.{◌≡◌}
+use Prim.Native.Nat.{◌+◌, ◌-◌, ◌*◌, ◌≤◌}
+use native.Mathlib.Nat.{le_antisymm}
+use native.Mathlib.Omega.{arith}
+use Rattle.majority_planes.specs.Adders.{PlanesTo}
+use Rattle.majority_planes.proofs.Counts.{planes-none, planes-all}
+use Rattle.majority_planes.proofs.count.Given as goal
+
+abbrev pub invariant-loop-h : goal.invariant-loop-h
+invariant-loop-h l = (l.h ≤ 8) × PlanesTo (2 * l.h) l.sets l.rows l.from (8 * l.eights) l.planes
+
+abbrev pub decreases-loop-h : goal.decreases-loop-h
+decreases-loop-h l = 8 - l.h

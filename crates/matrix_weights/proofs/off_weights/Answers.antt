@@ -1,0 +1,37 @@
+use Prim.Native.Nat.{◌-◌, ◌≤◌}
+use mathlib.Core.Path.{◌≡◌, ap, ◌∙◌}
+use native.Mathlib.Nat.{le_antisymm}
+use native.Mathlib.Omega.{arith}
+use borrow.Author.Rules.{rules}
+use Rattle.counting.specs.Paper.Sum.{flag}
+use Rattle.counting.proofs.Sums.{byte_flag}
+use Rattle.matrix_weights.specs.Weights.{out_weight, off_weights}
+use Rattle.matrix_weights.proofs.Weights.{flag-le, offs-none, offs-more, offs-most}
+use Rattle.matrix_weights.proofs.off_weights.Goals as goal
+
+pub loop-q-init : goal.loop-q-init
+loop-q-init c = (omega arith, offs-none _ _)
+
+pub overflow_add-off : goal.overflow_add-off
+overflow_add-off c =
+    let a = c.args in
+    let l = c.loop-q in
+    omega (
+      arith,
+      l.invariant.1,
+      offs-most a.shape.gamma a.weights.now l.q,
+      byte_flag c.outside.result,
+      flag-le c.outside.result,
+    )
+
+pub loop-q-preserved : goal.loop-q-preserved
+unfolding out_weight
+loop-q-preserved c =
+    let a = c.args in
+    let l = c.loop-q in (
+      omega arith,
+      offs-more a.shape.gamma a.weights.now l.q l.off _ l.invariant.1 (byte_flag c.outside.result ∙ ap flag c.outside.ensures),
+    )
+
+pub returns : goal.returns
+returns c = rw (le_antisymm c.loop-q.invariant.0 (omega arith)) at c.loop-q.invariant.1

@@ -1,0 +1,22 @@
+-- `matrix_weights::walk_row` meets its contract. The loop's invariant: no entry of the row that is passed is bad, the weights count those passed, and
+-- `before` is the last of them. Assumes nothing.
+use mathlib.Core.Path.{◌≡◌, sym, ap, ◌∙◌}
+use mathlib.Core.Bool.{true, false}
+use Prim.Native.Nat.{ℕ, ◌+◌, ◌-◌, ◌≤◌, ◌<◌}
+use native.Mathlib.Nat.{add-zero}
+use native.Mathlib.Omega.{arith}
+use borrow.Author.Count.{below_more}
+use borrow.Author.Tests.{le-leb, lt-leb}
+use Rattle.counting.proofs.Searches.{first-none, first-at}
+use Rattle.matrix.specs.Tallies.{Tally}
+use Rattle.matrix_weights.specs.Weights.{entry_at, bad_in_row}
+use Rattle.matrix_weights.proofs.Weights.{bad-first, bad-next, good-below, tally-next, tally-room}
+use Rattle.matrix_weights.proofs.walk_row.Given as goal
+
+abbrev pub invariant-loop-k : goal.invariant-loop-k
+invariant-loop-k l =
+    (0 < l.k) × (l.k ≤ l.rho) × (l.before ≡ entry_at l.list (l.start + l.k - 1)) × Tally (entry_at l.list) (l.start + l.k) l.weights
+    × ((x : ℕ) → x < l.k → bad_in_row l.n l.list l.start x ≡ false)
+
+abbrev pub decreases-loop-k : goal.decreases-loop-k
+decreases-loop-k l = l.rho - l.k

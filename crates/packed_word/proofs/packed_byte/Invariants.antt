@@ -1,0 +1,14 @@
+-- `packed_word::packed_byte` meets its contract. The loop's invariant: b is the number with the byte's first i bits, the highest first. Assumes nothing.
+use mathlib.Core.Path.{◌≡◌, ap, ◌∙◌}
+use Prim.Native.Nat.{ℕ, ◌+◌, ◌*◌, ◌-◌, ◌≤◌}
+use native.Mathlib.Omega.{arith}
+use Rattle.counting.specs.Places.{at}
+use Rattle.packed_word.proofs.Packed.{below-bit, below-small}
+use Rattle.packed_word.proofs.Stores.{eight, binary_of, binary-none, binary-more, binary-all, binary-room}
+use Rattle.packed_word.proofs.packed_byte.Given as goal
+
+abbrev pub invariant-loop-i : goal.invariant-loop-i
+invariant-loop-i l = (l.i ≤ 8) × (l.b ≡ binary_of (eight l.n (at l.bits) l.q) l.i)
+
+abbrev pub decreases-loop-i : goal.decreases-loop-i
+decreases-loop-i l = 8 - l.i

@@ -1,0 +1,14 @@
+-- `packed_word::set_bit` meets its contract: the byte with the shifted 1 or-ed in has one digit set, and no other changed. Assumes nothing.
+use borrow.Author.Rules.{rules}
+use mathlib.Core.Path.{◌≡◌}
+use Prim.Native.Nat.{ℕ, ◌*◌, ◌-◌, ◌%◌, ◌^◌}
+use native.Mathlib.Omega.{arith}
+use Rattle.packed_word.proofs.Masks.{shl_one}
+use Rattle.packed_word.proofs.Stores.{bit-set}
+use Rattle.packed_word.proofs.set_bit.Goals as goal
+
+pub returns : goal.returns
+returns c =
+    let j : ℕ = c.args.j in
+    let e : 1 * 2 ^ (7 - j % 8) % 256 ≡ 2 ^ (7 - j % 8) = shl_one (7 - j % 8) (omega arith) in
+    rw e (bit-set c.args.w.now j c.requires)

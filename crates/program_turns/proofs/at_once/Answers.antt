@@ -1,0 +1,16 @@
+-- `program_turns::at_once` meets its contract: the least of three numbers. Assumes nothing.
+use mathlib.Core.Path.{ap, sym, ◌∙◌, subst}
+use Prim.Native.Nat.{ℕ, min, ◌-◌}
+use native.Mathlib.Omega.{arith}
+use borrow.Author.Rules.{rules}
+use Rattle.program_turns.specs.Turns.{AtOnce}
+use Rattle.program_turns.proofs.Turns.{at-once}
+use Rattle.program_turns.proofs.at_once.Goals as goal
+
+pub returns : goal.returns
+returns c =
+    let s = c in
+    let n = s.args.n in
+    let i = s.args.number in
+    let e = c.least.ensures ∙ ap (λ (k : ℕ). min k (65535 - i)) c.least-most.ensures in
+    subst (AtOnce n i) (sym e) (at-once n i s.requires.0 s.requires.1 (omega arith))
