@@ -25,7 +25,8 @@ use Rattle.session.specs.Paper.Steps.{open_of, step_of}
 use Rattle.program_input.specs.Paper.Opening.{opening, setting_verdict, opening_verdict}
 use Rattle.eight_bits.specs.Paper.Calls.{quantise_asked_by, QuantisedBy, iterative_asked_by, IterativeBy, indexed_asked_by, IterativeIndexedBy}
 use Rattle.eight_bits.specs.Paper.Calls.{open_by, step_by, program_by}
-use Rattle.eight_bits.proofs.Widths.{ranges-eight, setting-eight}
+use Rattle.eight_bits.proofs.Widths.{ranges-eight}
+use Rattle.eight_bits.proofs.SettingWidths.{setting-eight}
 
 -- ---- calls with a setting
 

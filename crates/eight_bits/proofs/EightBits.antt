@@ -25,9 +25,9 @@ use Rattle.session_record.specs.Paper.Record.{Record}
 use Rattle.session_asking.specs.Paper.Asked.{Held, lent}
 use Rattle.session.specs.Paper.Steps.{step_of}
 use Rattle.eight_bits.specs.Paper.Claims.{AsBefore, StepAsBefore, GoesOn, Returns, StepReturns}
-use Rattle.eight_bits.proofs.Widths.{setting-eight}
+use Rattle.eight_bits.proofs.SettingWidths.{setting-eight}
 use Rattle.eight_bits.proofs.Calls.{quantiser-eight, iterative-eight, indexed-eight, open-eight, program-eight, step-eight}
-use Rattle.eight_bits.proofs.Face.{face-eight}
+use Rattle.eight_bits.proofs.FaceBefore.{face-eight}
 use Rattle.eight_bits.proofs.TakenBack.{quantiser-back, iterative-back, indexed-back, open-back, face-back, step_back}
 
 -- ---- calls with a setting

@@ -1,25 +1,18 @@
 -- Widths up to 8: their test, and their largest level.
---   ranges-eight, setting-eight   == the test of width and limit, and of a setting, is the one whose widths end at 8
---   largest-eight                 == no level of these widths lies beyond what is taken back
+--   ranges-eight    == the test of width and limit is the one whose widths end at 8
+--   largest-eight   == no level of these widths lies beyond what is taken back
 -- Assumes nothing.
-use mathlib.Core.Path.{◌≡◌, ap}
-use mathlib.Core.Bool.{Bool, ◌&&◌}
+use mathlib.Core.Path.{◌≡◌}
 use Prim.Native.Nat.{ℕ, ◌-◌, ◌^◌, ◌≤◌}
 use native.Mathlib.Omega.{arith}
 use borrow.Author.Tests.{le-leb}
-use lib.Dec.{leb}
 use lib.Pow.{pow_mono}
-use Rattle.quantiser_levels.specs.Paper.Samples.{Setting, most_bits, step_fits, ranges_fit, ranges_fit_up_to, setting_fits, setting_fits_up_to, largest}
+use Rattle.quantiser_levels.specs.Paper.Samples.{most_bits, ranges_fit, ranges_fit_up_to, largest}
 use Rattle.quantiser_widths.specs.Paper.Widths.{most_old}
 
 -- the width and the limit
 pub ranges-eight : (b limit : ℕ) → b ≤ 8 → ranges_fit b limit ≡ ranges_fit_up_to 8 b limit
 ranges-eight b limit h = rw (le-leb b most_bits (omega arith), le-leb b 8 (omega arith))
-
--- a setting
-pub setting-eight : (S : Setting) → S.bits ≤ 8 → setting_fits S ≡ setting_fits_up_to 8 S
-unfolding setting_fits
-setting-eight S h = ap (λ (t : Bool). t && (leb S.kind 1 && step_fits S.step)) (ranges-eight S.bits S.limit h)
 
 -- the largest level of 8 bits is what is taken back
 pub largest-eight : (b : ℕ) → b ≤ 8 → largest b ≤ most_old

@@ -1,4 +1,4 @@
-// Exported functions for tests and benchmarks: each answer is one number of 64 bits.
+// Functions for tests and benchmarks, which `ffi_c` exports: each answer is one number of 64 bits.
 // Rests on every decoder, on `changed_bits`, on `quantiser_widths`, on the calls for sheets and on `ffi_codes`. Design, section 4: the test face.
 #![tactic(auto)]
 

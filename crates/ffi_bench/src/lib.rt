@@ -1,5 +1,5 @@
-// The core of one-step voting and the replay of a lent index as exported functions, for the benchmark alone, which asks `mlgd_check` first.
-// An archive of its own: they are the exported functions with a `requires`, and no user links it.
+// The core of one-step voting and the replay of a lent index, which `ffi_bench_c` exports for the benchmark alone, which asks `mlgd_check` first.
+// An archive of its own: of the exported functions these have a `requires`, and no user links it.
 // Rests on `one_step`, on `matrix_index_replay`, on `ffi_codes`, and for one law on `ffi`. Design, section 4: the test face.
 #![tactic(auto)]
 

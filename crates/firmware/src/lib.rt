@@ -1,4 +1,4 @@
-// The face for the tufting firmware: iterative voting as one C function over numbers and byte slices.
+// The face for the tufting firmware: iterative voting as one function over numbers and byte slices, which `firmware_c` exports for C.
 // Rests on `firmware_decoding`, `firmware_asking`, `firmware_codes` and `matrix_check`. Document 02: cards 3 and 7.
 #![tactic(auto)]
 

@@ -1,5 +1,4 @@
 -- The answer of the call that takes an index, by what is asked before it.
---   refused-either     == the matrix or the index is refused: the number and place
 --   verdict-alike      == with the matrix's own index it asks what iterative voting asks
 --   says-alike         == and says what iterative voting says
 --   answered-own       == it is the matrix's own: what iterative voting answers
@@ -16,31 +15,19 @@ use lib.Dec.{ltb}
 use lib.IntN.{ℤ}
 use lib.Ieee.{Float}
 use lib.ListN.{length}
-use Rattle.answers.specs.Paper.Answers.{Verdict, accepted, refused, Said, refusal, after, written, wrong_lengths}
+use Rattle.answers.specs.Paper.Answers.{Verdict, accepted, refused, Said, after, written, wrong_lengths}
 use Rattle.packed_word.specs.Paper.Packed.{bytes_for}
 use Rattle.matrix.specs.Paper.Code.{Matrix}
 use Rattle.matrix.specs.Paper.Check.{check_of}
 use Rattle.matrix_index.specs.Paper.Index.{index_of}
 use Rattle.matrix_index_check.specs.Paper.Call.{indexed_verdict}
-use Rattle.matrix_index_check.proofs.Claims.{numbered, step-number, own-alike, ten-else, ten-only, one-refused}
+use Rattle.matrix_index_check.proofs.Claims.{numbered, step-number, own-alike, ten-else, ten-only}
 use Rattle.quantiser_levels.specs.Paper.Samples.{Setting, setting_fits, first_not_finite}
 use Rattle.iterative_core.specs.Paper.Iterative.{start_of, samples_verdict, iterative_verdict, iterative_of, report_at, end_from, iterative_word, iterative_levels}
 use Rattle.iterative_core.specs.Paper.Call.{IterativeAnswered}
 use Rattle.iterative_indexed.specs.Paper.Call.{iterative_indexed_verdict, iterative_indexed_of, IterativeIndexedAnswered}
 
 module _ (H : Matrix) (x : List ℕ) (S : Setting) (xs : List Float) (w : List ℕ) (ls : List ℤ) where
-  -- a refusal keeps both buffers
-  kept : (k p : ℕ) (said : Said) → iterative_indexed_verdict H x S xs (length w) (length ls) ≡ refused k p → said ≡ refusal k p
-      → IterativeIndexedAnswered H x S xs said w w ls ls
-  unfolding iterative_indexed_of
-  kept k p said v e = record { answer = e ∙ rw v refl; word = rw v refl; levels = rw v refl }
-
-  -- the matrix or the index is refused
-  pub refused-either : (k p : ℕ) (said : Said) → indexed_verdict H x accepted ≡ refused k p → said ≡ refusal k p
-      → IterativeIndexedAnswered H x S xs said w w ls ls
-  unfolding iterative_indexed_verdict
-  refused-either k p said c e = kept k p said (one-refused H x k p c (samples_verdict H.n S xs (length w) (length ls))) e
-
   -- with the matrix's own index it asks what iterative voting asks
   pub verdict-alike : x ≡ index_of H → iterative_indexed_verdict H x S xs (length w) (length ls) ≡ iterative_verdict H S xs (length w) (length ls)
   unfolding iterative_indexed_verdict iterative_verdict

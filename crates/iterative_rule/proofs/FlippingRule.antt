@@ -1,6 +1,4 @@
 -- The flipping rule for iterative voting, on samples and bytes: the claims of specs/Paper/Claims.antt, for every call that is not refused.
---   wrong-least      == no more wrong bits had a level than were wrong
---   wrong-decided    == where no sample is undecided, all of them had one
 --   iterative-rule   == every codeword changed within the half is recovered where the round limit leaves the rounds for it
 --   ample-limit      == a limit of L / 2 + 1 leaves them
 --   one-round        == with b = 2 a limit of 1 does, and the rounds are those of one-step voting
@@ -28,7 +26,7 @@ use Rattle.majority_logic.proofs.FlippingRule.{sent-codeword, pack-is}
 use Rattle.iterative_levels.specs.Levels.{biased}
 use Rattle.iterative_levels.proofs.Levels.{biased-le}
 use Rattle.iterative_changed.specs.Paper.Changed.{decided_in, changed}
-use Rattle.iterative_changed.proofs.Changes.{changed-cong, changed-sym, changed-least, changed-decided}
+use Rattle.iterative_changed.proofs.Changes.{changed-cong, changed-sym}
 use Rattle.iterative_core.specs.Paper.Iterative.{start_of, end_from, report_at, iterative_verdict, iterative_of, iterative_word}
 use Rattle.iterative_core.specs.Calls.{CallLent}
 use Rattle.iterative_core.proofs.Loans.{verdict-lent}
@@ -37,17 +35,6 @@ use Rattle.iterative_rule.specs.Paper.Claims.{IterativeRule, AmpleLimit, OneRoun
 use Rattle.iterative_rule.proofs.Sides.{hard-high, hard-firm, hard-low}
 use Rattle.iterative_rule.proofs.Approach.{Nearing}
 use Rattle.iterative_rule.proofs.Ends.{rounds-most, rounds-one, end-right}
-
--- ---- the wrong bits that had a level
-
-module _ (H : Matrix) (S : Setting) (c : List ℕ) (xs : List Float) where
-  -- no more than were wrong
-  pub wrong-least : wrong_decided H S c xs ≤ wrong_bits H c xs
-  wrong-least = changed-least H.n (decided_in (start_of S xs).R) (hard_bit xs) (bit_at c)
-
-  -- all of them where no sample is undecided
-  pub wrong-decided : ((j : ℕ) → j < H.n → (start_of S xs).R j ≡ pos 0 → ⊥) → wrong_decided H S c xs ≡ wrong_bits H c xs
-  wrong-decided some = changed-decided H.n (start_of S xs).R (hard_bit xs) (bit_at c) some
 
 -- ---- a call near a codeword
 

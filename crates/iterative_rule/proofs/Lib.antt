@@ -1,4 +1,5 @@
 pub mod Sides
 pub mod Approach
 pub mod Ends
+pub mod WrongBits
 pub mod FlippingRule

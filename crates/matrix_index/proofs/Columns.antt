@@ -25,7 +25,8 @@ use Rattle.matrix.specs.Paper.PlainCheck.{Rows}
 use Rattle.matrix.proofs.Rows.{has-le}
 use Rattle.matrix_index.specs.Paper.Index.{column_start, rows_of, index_of, index_size}
 use Rattle.matrix_index.specs.Filling.{before}
-use Rattle.matrix_index.proofs.Parts.{length-rows, before-all, rows_at, start-next, index-start, index-rows}
+use Rattle.matrix_index.proofs.RowCounts.{length-rows}
+use Rattle.matrix_index.proofs.Parts.{before-all, rows_at, start-next, index-start, index-rows}
 
 -- the row at place q of column j
 pub record RowIn (H : Matrix) (j q : ℕ) : Type 0 where

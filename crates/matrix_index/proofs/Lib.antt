@@ -1,3 +1,4 @@
+pub mod RowCounts
 pub mod Parts
 pub mod Starts
 pub mod Cursors

@@ -1,5 +1,4 @@
 -- Laws of the index of a matrix: its length, its starting places, and where each row stands.
---   length-rows    == the rows of a column before row i are as many as the column's ones there
 --   before-all     == a column's ones before the last row's end are its weight
 --   before-next    == a row's ones come on top of those before it
 --   rows_at        == a row that has the column stands behind those before it
@@ -20,7 +19,7 @@ use Prim.Native.Nat.{ℕ, zero, suc, ◌+◌, ◌*◌, ◌-◌, ◌≤◌, ◌<�
 use native.Mathlib.Nat.{not-suc-le-zero}
 use native.Mathlib.Decide.{ℕ_discrete}
 use native.Mathlib.Omega.{arith}
-use lib.ListN.{length, replicate, length-append, length-replicate, get_or-append}
+use lib.ListN.{length, replicate, length-append, get_or-append}
 use lib.Seq.{get_or-append-add}
 use Rattle.counting.specs.Paper.Sum.{sum_below, same}
 use Rattle.counting.specs.Paper.Lists.{listed}
@@ -35,15 +34,9 @@ use Rattle.matrix.proofs.Rows.{has-le}
 use Rattle.matrix.proofs.Weights.{weights-total}
 use Rattle.matrix_index.specs.Paper.Index.{column_start, rows_of, index_of, index_size}
 use Rattle.matrix_index.specs.Filling.{before, row_place}
+use Rattle.matrix_index.proofs.RowCounts.{length-rows}
 
 module _ (H : Matrix) where
-  -- the rows of a column before row i are as many as the column's ones there
-  pub length-rows : (j i : ℕ) → length (rows_of H j i) ≡ before H i j
-  unfolding rows_of before sum_below
-  length-rows j zero = refl
-  length-rows j (suc i) =
-      length-append (rows_of H j i) (replicate (has H i j) i) ∙ omega (arith, length-rows j i, length-replicate {A = ℕ} (has H i j) i)
-
   -- a column's weight is its ones in all rows
   pub before-all : (j : ℕ) → before H H.m j ≡ weight H j
   unfolding before weight
@@ -61,13 +54,13 @@ module _ (H : Matrix) where
   rows_at j r (suc i) l e =
       elim (ℕ_discrete r i) [
         | yes q ↦
-            ap (λ (p : ℕ). at (rows_of H j i ++ replicate (has H i j) i) p) (ap (λ (y : ℕ). before H y j) q ∙ sym (length-rows j i) ∙ omega arith)
+            ap (λ (p : ℕ). at (rows_of H j i ++ replicate (has H i j) i) p) (ap (λ (y : ℕ). before H y j) q ∙ sym (length-rows H j i) ∙ omega arith)
             ∙ get_or-append-add (rows_of H j i) (replicate (has H i j) i) 0 0
             ∙ ap (λ (y : ℕ). at (replicate y i) 0) (ap (λ (y : ℕ). has H y j) (sym q) ∙ e)
             ∙ sym q
         | no ne ↦
             get_or-append (rows_of H j i) (replicate (has H i j) i) 0 (before H r j)
-            (omega (arith, length-rows j i, before-next j r i (omega arith), e))
+            (omega (arith, length-rows H j i, before-next j r i (omega arith), e))
             ∙ rows_at j r i (omega arith) e
       ]
 

@@ -4,6 +4,8 @@
 --   Piece a l l' x x' input input' ..   == the front of `input'` came for a; a' is awaited then, and the reply's text stands before e in `out'`
 --   Replies a b                         == from a on, replies to pieces of input lead to b
 --   RunDone a b                         == they do, and b wants nothing more
+--   BrokenPiece a l l' x x' ..          == an error came as the piece for a was read or its reply printed: what is left of the buffers
+--   BrokenRun a l' x' input' out'       == from a on, replies lead to where a piece broke off: what is left of the buffers
 -- Assumes nothing.
 use Rattle.std.specs.Prelude.{ℕ, zero, suc, ◌≤◌, ◌≡◌, List, [], ◌++◌, length, take, drop}
 use Rattle.program_ends.specs.Stages.{Awaited, wanted, reply_to}
@@ -40,3 +42,20 @@ pub data Replies (a : Awaited) : Awaited → Type 0 where
 pub record RunDone (a b : Awaited) : Type 0 where
   pub replies : Replies a b
   pub done : wanted b ≡ 0
+
+-- where nothing was read, all stays but the front of the input; where nothing was printed, the buffers are as the reply left them
+pub data BrokenPiece (a : Awaited) (l l' x x' input input' out out' : List ℕ) : Type 0 where
+  not_read : drop (wanted a) input' ≡ drop (wanted a) input → l' ≡ l → x' ≡ x → out' ≡ out → BrokenPiece a l l' x x' input input' out out'
+  not_printed : {a' : Awaited} {w e : ℕ} → Piece a l l' x x' input input' a' w e out out' → BrokenPiece a l l' x x' input input' out out'
+
+-- the buffers that the broken piece was lent were left so by the replies before it
+pub record BrokenRun (a : Awaited) (l' x' input' out' : List ℕ) : Type 0 where
+  pub reached : Awaited
+  pub want : ℕ
+  pub list : List ℕ
+  pub tables : List ℕ
+  pub input : List ℕ
+  pub out : List ℕ
+  pub replies : Replies a reached
+  pub lent : PieceLent reached want list tables input out
+  pub broken : BrokenPiece reached list l' tables x' input input' out out'

@@ -7,7 +7,8 @@ use Rattle.matrix.specs.Paper.PlainCheck.{Accepted}
 use Rattle.matrix.proofs.PlainCheck.{accepted-is}
 use Rattle.matrix_index.specs.Paper.Index.{index_of}
 use Rattle.matrix_index_check.proofs.Claims.{both-accepted}
-use Rattle.iterative_indexed.proofs.Calls.{refused-either, answered-own, answered-alike}
+use Rattle.iterative_indexed.proofs.Refusals.{refused-either}
+use Rattle.iterative_indexed.proofs.Calls.{answered-own, answered-alike}
 use borrow.Author.Rules.{rules}
 use Rattle.iterative_indexed.proofs.iterative_indexed.Statement.{statement}
 use Rattle.iterative_indexed.proofs.iterative_indexed.Tie as tie

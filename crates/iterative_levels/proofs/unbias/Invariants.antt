@@ -1,0 +1,19 @@
+-- `iterative_levels::unbias` meets its contract. The invariant: the first j levels are written over the old ones. Assumes nothing.
+use mathlib.Core.Path.{◌≡◌, sym, ◌∙◌}
+use Prim.Native.Nat.{◌-◌, ◌≤◌}
+use native.Mathlib.Nat.{le_antisymm}
+use native.Mathlib.Omega.{arith}
+use borrow.Author.Rules.{rules, sfits_of}
+use mir.ValLaws.{to_z-of_z}
+use lib.ListN.{length}
+use Rattle.counting.specs.Paper.Lists.{listed, over}
+use Rattle.counting.proofs.Writes.{over_none, over-long, over-step}
+use Rattle.quantiser_levels.proofs.Signs.{cell}
+use Rattle.iterative_levels.specs.Levels.{unbiased}
+use Rattle.iterative_levels.proofs.unbias.Given as goal
+
+abbrev pub invariant-loop-j : goal.invariant-loop-j
+invariant-loop-j l = (l.j ≤ l.n) × (l.levels ≡ over (listed l.j (unbiased l.middle l.kept)) l.initial.levels)
+
+abbrev pub decreases-loop-j : goal.decreases-loop-j
+decreases-loop-j l = l.n - l.j

@@ -1,0 +1,16 @@
+-- `iterative_levels::update` meets its contract. The invariant: the first j bits and levels are those of the next round, the others as they were.
+-- Assumes nothing.
+use Prim.Native.Nat.{◌-◌, ◌≤◌, ◌<◌}
+use native.Mathlib.Nat.{le_antisymm}
+use native.Mathlib.Omega.{arith}
+use borrow.Author.Rules.{rules}
+use Rattle.counting.specs.Places.{at}
+use Rattle.iterative_levels.specs.Levels.{Moved}
+use Rattle.iterative_levels.proofs.Passes.{moved_none, moved-step}
+use Rattle.iterative_levels.proofs.update.Given as goal
+
+abbrev pub invariant-loop-j : goal.invariant-loop-j
+invariant-loop-j l = (l.j ≤ l.n) × Moved l.votes (at l.weights) l.j l.middle l.ceiling l.initial.bits l.initial.levels l.bits l.levels
+
+abbrev pub decreases-loop-j : goal.decreases-loop-j
+decreases-loop-j l = l.n - l.j

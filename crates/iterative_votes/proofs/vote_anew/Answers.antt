@@ -1,0 +1,33 @@
+-- `iterative_votes::vote_anew`: the checks of the set are those that it has and the empty set has not; added where there are no votes, theirs are the votes.
+use borrow.Author.Rules.{rules}
+use lib.ListN.{replicate}
+use Rattle.matrix.specs.Paper.Shapes.{matrix_of}
+use Rattle.syndrome_words.specs.Sets.{only_in}
+use Rattle.iterative_votes.proofs.Kept.{listed-few, only-small, anew-room, anew}
+use Rattle.iterative_votes.proofs.vote_anew.Goals as goal
+
+pub add-requires : goal.add-requires
+add-requires c =
+    let s = c in
+    let a = s.args in
+    let H = matrix_of a.shape a.list.now in
+    let f = c.list_only-count in
+    let rows = f.new.rows in
+    let wiped = c.clear in (
+      s.requires.0,
+      s.requires.1,
+      listed-few H s.requires.0 (only_in a.parity.now (replicate 16 0)) (only-small (replicate 16 0) a.parity.now) rows f.result f.ensures,
+      anew-room H s.requires.0 a.parity.now rows f.result f.ensures a.votes.now wiped.new.votes s.requires.4 wiped.ensures,
+    )
+
+pub returns : goal.returns
+returns c =
+    let s = c in
+    let a = s.args in
+    let H = matrix_of a.shape a.list.now in
+    let f = c.list_only-count in
+    let wiped = c.clear in
+    let new = c.add.new.votes in (
+      anew H s.requires.0 a.parity.now f.new.rows f.result f.ensures a.votes.now wiped.new.votes s.requires.4 wiped.ensures new c.add.ensures,
+      f.ensures.long,
+    )

@@ -1,0 +1,7 @@
+-- `majority_bytes::spread` meets its contract. Assumes nothing.
+use borrow.Author.Rules.{rules}
+use Rattle.majority_bytes.proofs.Spreads.{spread-mask}
+use Rattle.majority_bytes.proofs.spread.Goals as goal
+
+pub returns : goal.returns
+returns c = spread-mask c.args.x c.args.s

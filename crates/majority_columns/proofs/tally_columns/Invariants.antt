@@ -1,0 +1,16 @@
+-- `majority_columns::tally_columns`. The loop's invariant: the votes on the first `j` bits are written over the old ones.
+use Prim.Native.Nat.{◌-◌, ◌≤◌}
+use mathlib.Core.Path.{◌≡◌, sym}
+use native.Mathlib.Nat.{le_antisymm}
+use native.Mathlib.Omega.{arith}
+use Rattle.counting.specs.Paper.Lists.{listed, over}
+use Rattle.counting.specs.Places.{at}
+use Rattle.counting.proofs.Writes.{over_none, over-long, over-step}
+use Rattle.majority_columns.specs.ColumnVotes.{column_votes}
+use Rattle.majority_columns.proofs.tally_columns.Given as goal
+
+abbrev pub invariant-loop-j : goal.invariant-loop-j
+invariant-loop-j l = (l.j ≤ l.n) × (l.votes ≡ over (listed l.j (column_votes l.index l.n (at l.parity))) l.initial.votes)
+
+abbrev pub decreases-loop-j : goal.decreases-loop-j
+decreases-loop-j l = l.n - l.j

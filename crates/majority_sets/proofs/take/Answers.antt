@@ -1,0 +1,37 @@
+-- `majority_sets::take`: one by one, or the first of them so and the others in eights.
+use Prim.Native.Nat.{◌+◌, ◌*◌, ◌/◌, ◌%◌, ◌≤◌}
+use native.Mathlib.Omega.{arith}
+use Rattle.matrix.specs.Paper.Shapes.{matrix_of}
+use Rattle.majority_sets.proofs.Shares.{sets-there, sets-six, first-parts, first-there, rest-there, both_fewer}
+use borrow.Author.Rules.{rules}
+use Rattle.majority_sets.proofs.take.Goals as goal
+
+pub take_rows-requires-2 : goal.take_rows-requires-2
+take_rows-requires-2 c =
+    let s = c in
+    let a = s.args in
+    let H = matrix_of a.shape a.list.now in (
+      first-parts H s.requires.0 a.supports.now s.requires.1 a.rows.now a.count s.requires.2,
+      first-there H s.requires.0 a.supports.now s.requires.1 a.rows.now a.count s.requires.2 a.votes.now s.requires.3,
+    )
+
+pub take_eights-requires : goal.take_eights-requires
+take_eights-requires c =
+    let s = c in
+    let a = s.args in
+    let H = matrix_of a.shape a.list.now in
+    let first = c.take_rows-2 in (
+      s.requires.0.sizes.n_most,
+      omega (arith, s.requires.2.parts.few),
+      sets-there H s.requires.0 a.supports.now s.requires.1 a.rows.now a.count s.requires.2,
+      sets-six H s.requires.0 a.supports.now s.requires.1 a.rows.now a.count s.requires.2,
+      rest-there H s.requires.0 a.supports.now s.requires.1 a.rows.now a.count s.requires.2 a.votes.now s.requires.3 _ first.ensures,
+    )
+
+pub returns : goal.returns
+returns c =
+    let s = c in
+    let a = s.args in
+    let H = matrix_of a.shape a.list.now in
+    both_fewer H s.requires.0 a.supports.now s.requires.1 a.rows.now a.count s.requires.2 a.votes.now s.requires.3 _ c.take_rows-2.ensures _
+    c.take_eights.ensures

@@ -1,0 +1,14 @@
+-- `majority_votes::add_some`. The loop's invariant: a vote more at each of the first `k` column numbers of the part.
+use Prim.Native.Nat.{ℕ, ◌+◌, ◌-◌, ◌≤◌}
+use native.Mathlib.Nat.{le_antisymm}
+use native.Mathlib.Omega.{arith}
+use Rattle.counting.specs.Places.{at, among}
+use Rattle.majority_votes.specs.Tallies.{More}
+use Rattle.majority_votes.proofs.Sums.{among_none, among_next, among-step}
+use Rattle.majority_votes.proofs.add_some.Given as goal
+
+abbrev pub invariant-loop-k : goal.invariant-loop-k
+invariant-loop-k l = (l.k ≤ l.count) × More (among l.list l.from l.k) l.initial.votes l.votes
+
+abbrev pub decreases-loop-k : goal.decreases-loop-k
+decreases-loop-k l = l.count - l.k

@@ -1,0 +1,14 @@
+-- `majority_votes::take_row`. The loop's invariant: a vote less at each of the first `k` column numbers of the part.
+use Prim.Native.Nat.{◌-◌, ◌≤◌}
+use native.Mathlib.Omega.{arith}
+use Rattle.counting.specs.Places.{among}
+use Rattle.majority_votes.specs.Tallies.{Fewer}
+use Rattle.majority_votes.proofs.Sums.{part-within}
+use Rattle.majority_votes.proofs.Takes.{among-left, some_left, some-taken, rest-taken}
+use Rattle.majority_votes.proofs.take_row.Given as goal
+
+abbrev pub invariant-loop-k : goal.invariant-loop-k
+invariant-loop-k l = (l.k ≤ l.count) × Fewer (among l.list l.from l.k) l.initial.votes l.votes
+
+abbrev pub decreases-loop-k : goal.decreases-loop-k
+decreases-loop-k l = l.count - l.k

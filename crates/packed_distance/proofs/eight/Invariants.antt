@@ -1,0 +1,13 @@
+-- `packed_distance::eight` meets its contract. The loop's invariant: x is the number that the bytes from byte k to the eighth make. Assumes nothing.
+use mathlib.Core.Path.{◌≡◌, subst}
+use Prim.Native.Nat.{ℕ, suc, ◌+◌, ◌*◌, ◌-◌, ◌≤◌}
+use native.Mathlib.Omega.{arith}
+use Rattle.packed_distance.specs.Parts.{WordRead}
+use Rattle.packed_distance.proofs.Words.{read_none, read_more, read-room}
+use Rattle.packed_distance.proofs.eight.Given as goal
+
+abbrev pub invariant-loop-k : goal.invariant-loop-k
+invariant-loop-k l = (l.k ≤ 8) × WordRead l.w l.k (8 - l.k) l.x
+
+abbrev pub decreases-loop-k : goal.decreases-loop-k
+decreases-loop-k l = l.k

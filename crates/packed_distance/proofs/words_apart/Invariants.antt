@@ -1,0 +1,13 @@
+-- `packed_distance::words_apart` meets its contract. The loop's invariant: the number found is that of the first i words. Assumes nothing.
+use mathlib.Core.Path.{◌≡◌, ap, ◌∙◌}
+use Prim.Native.Nat.{ℕ, ◌*◌, ◌-◌, ◌≤◌}
+use native.Mathlib.Omega.{arith}
+use Rattle.packed_distance.specs.Parts.{apart_in}
+use Rattle.packed_distance.proofs.Parts.{apart_none, apart-within, apart_words}
+use Rattle.packed_distance.proofs.words_apart.Given as goal
+
+abbrev pub invariant-loop-i : goal.invariant-loop-i
+invariant-loop-i l = (l.i ≤ l.words) × (l.found ≡ apart_in l.a l.b 0 (8 * l.i))
+
+abbrev pub decreases-loop-i : goal.decreases-loop-i
+decreases-loop-i l = l.words - l.i

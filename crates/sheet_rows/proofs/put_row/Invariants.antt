@@ -1,0 +1,17 @@
+-- `sheet_rows::put_row`. The loop's invariant: the first `k` entries of the row are written.
+use Prim.Native.Nat.{◌+◌, ◌-◌, ◌≤◌, ◌<◌}
+use mathlib.Core.Path.{◌≡◌, ap, ◌∙◌}
+use native.Mathlib.Nat.{le_antisymm, mod-lt}
+use native.Mathlib.Omega.{arith}
+use borrow.Author.Rules.{rules}
+use lib.ListN.{length}
+use Rattle.counting.specs.Places.{at}
+use Rattle.sheet_rows.specs.Parts.{turned_at, put_from}
+use Rattle.sheet_rows.proofs.Writing.{put-none, put_next, put-long}
+use Rattle.sheet_rows.proofs.put_row.Given as goal
+
+abbrev pub invariant-loop-k : goal.invariant-loop-k
+invariant-loop-k l = (l.k ≤ l.rho) × (l.list ≡ put_from l.p l.k (turned_at l.starts l.shifts l.z l.i) l.initial.list)
+
+abbrev pub decreases-loop-k : goal.decreases-loop-k
+decreases-loop-k l = l.rho - l.k

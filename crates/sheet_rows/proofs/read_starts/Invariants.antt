@@ -1,0 +1,17 @@
+-- `sheet_rows::read_starts`. The loop's invariant: `k` of the first `c` blocks are set, and their starting columns are written.
+use Prim.Native.Nat.{◌*◌, ◌-◌, ◌≤◌}
+use mathlib.Core.Path.{◌≡◌, sym, ap, ◌∙◌}
+use native.Mathlib.Nat.{le_antisymm}
+use native.Mathlib.Omega.{arith}
+use Rattle.counting.specs.Paper.Sum.{sum_below}
+use Rattle.sheet.specs.Paper.Sheet.{set_at}
+use Rattle.sheet_rows.specs.Parts.{Starts}
+use Rattle.sheet_rows.proofs.Lent.{place-small, place-there, place-bit, set-none, set_more, block_inside}
+use Rattle.sheet_rows.proofs.Starting.{starts_none, starts_more, few-before}
+use Rattle.sheet_rows.proofs.read_starts.Given as goal
+
+abbrev pub invariant-loop-c : goal.invariant-loop-c
+invariant-loop-c l = (l.c ≤ l.h.columns) × (l.k ≡ sum_below l.c (set_at l.bytes l.r)) × Starts l.bytes l.r l.c l.starts
+
+abbrev pub decreases-loop-c : goal.decreases-loop-c
+decreases-loop-c l = l.h.columns - l.c

@@ -1,0 +1,15 @@
+-- `syndrome_rows::list_only`. The loop's invariant: the checks in the words looked at are listed.
+use Prim.Native.Nat.{◌+◌, ◌*◌, ◌-◌, ◌≤◌}
+use mathlib.Core.Path.{◌≡◌, sym, ◌∙◌}
+use native.Mathlib.Omega.{arith}
+use Rattle.syndrome.specs.Places.{Places}
+use Rattle.syndrome.proofs.Lists.{places-none}
+use Rattle.syndrome_words.specs.Sets.{only_in}
+use Rattle.syndrome_rows.proofs.Only.{only-bit, only-past, only-word, only-fit, only_word, places-word, places-within}
+use Rattle.syndrome_rows.proofs.list_only.Given as goal
+
+abbrev pub invariant-loop-w : goal.invariant-loop-w
+invariant-loop-w l = (l.w ≤ l.words) × Places (only_in l.a l.b) (64 * l.w) l.rows l.t
+
+abbrev pub decreases-loop-w : goal.decreases-loop-w
+decreases-loop-w l = l.words - l.w

@@ -1,0 +1,15 @@
+-- `syndrome_update::list_flips`. The loop's invariant: the first `t` of `places` are the places below `j` at which the words differ.
+use Prim.Native.Nat.{◌-◌, ◌+◌, ◌≤◌}
+use mathlib.Core.Path.{sym, ◌∙◌}
+use native.Mathlib.Omega.{arith}
+use Rattle.counting.specs.Places.{at}
+use Rattle.syndrome_update.specs.Parities.{differing, FlipsListed}
+use Rattle.syndrome_update.proofs.Turns.{bits-fewer}
+use Rattle.syndrome_update.proofs.Flips.{flips-none, flips-join}
+use Rattle.syndrome_update.proofs.list_flips.Given as goal
+
+abbrev pub invariant-loop-j : goal.invariant-loop-j
+invariant-loop-j l = (l.j ≤ l.n) × FlipsListed (differing (at l.before) (at l.bits)) l.j l.initial.places l.places l.t
+
+abbrev pub decreases-loop-j : goal.decreases-loop-j
+decreases-loop-j l = l.n - l.j
