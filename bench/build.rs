@@ -1,11 +1,11 @@
-//! With the feature `measure`: links libffi_bench.a and libplain_replay.a of target/staticlib, or of the
+//! With the feature `measure`: links libffi_bench.a and libplain_replay.a of build/staticlib, or of the
 //! folder that LIBFFI_DIR names. The library itself, libffi.a, is linked by `ffi_face`.
 
 use std::path::{Path, PathBuf};
 
 /// The archives, and what makes them.
 const ARCHIVES: [(&str, &str); 2] = [
-    ("ffi_bench", "run `rt staticlib ffi_bench` first"),
+    ("ffi_bench", "`make bench` makes it"),
     ("plain_replay", "`make bench` compiles bench/c/replay.c"),
 ];
 
@@ -16,7 +16,7 @@ fn main() {
     }
     let folder = match std::env::var_os("LIBFFI_DIR") {
         Some(folder) => PathBuf::from(folder),
-        None => Path::new(env!("CARGO_MANIFEST_DIR")).join("../target/staticlib"),
+        None => Path::new(env!("CARGO_MANIFEST_DIR")).join("../build/staticlib"),
     };
     println!("cargo::rustc-link-search=native={}", folder.display());
     for (name, how) in ARCHIVES {

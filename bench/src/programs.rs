@@ -2,7 +2,7 @@
 //! in C and in Rust and the literal one; and with levels of 12 bits against levels of 8.
 //!
 //! CPU time of the child, user's and system's, with its start; the programs take turns, and the
-//! best of many runs counts. DECODE names another program than target/bin/decode, from the
+//! best of many runs counts. DECODE names another program than build/bin/decode, from the
 //! workspace's root on.
 
 use bench::cases::{cases, input, Case};
@@ -132,7 +132,7 @@ pub fn root() -> PathBuf {
 }
 
 pub fn decode() -> PathBuf {
-    let named = std::env::var_os("DECODE").unwrap_or("target/bin/decode".into());
+    let named = std::env::var_os("DECODE").unwrap_or("build/bin/decode".into());
     let path = root().join(&named);
     assert!(
         path.exists(),

@@ -1,7 +1,7 @@
 //! The firmware's face as C sees it: builds the C programs of `c/` and of `examples/` on the
 //! archive, runs them, and compares what they print with the reference.
 //!
-//! LIBFIRMWARE_DIR names the folder of libfirmware.a; target/staticlib is the default. FUZZ_N
+//! LIBFIRMWARE_DIR names the folder of libfirmware.a; build/staticlib is the default. FUZZ_N
 //! multiplies the number of random calls, FUZZ_SEED chooses others. What is built goes to cargo's
 //! folder for tests.
 

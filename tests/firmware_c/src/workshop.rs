@@ -95,7 +95,7 @@ impl Workshop {
 
 /// The archive of the firmware's face.
 pub fn archive() -> PathBuf {
-    let named = std::env::var_os("LIBFIRMWARE_DIR").unwrap_or("target/staticlib".into());
+    let named = std::env::var_os("LIBFIRMWARE_DIR").unwrap_or("build/staticlib".into());
     let archive = root().join(named).join("libfirmware.a");
     let missing = "libfirmware.a is missing: run `make firmware` first";
     assert!(archive.exists(), "{missing}");

@@ -1,6 +1,6 @@
 //! Runs the program and compares what it prints with the reference, byte for byte.
 //!
-//! DECODE names the program, from the workspace's root on; target/bin/decode is the default. A
+//! DECODE names the program, from the workspace's root on; build/bin/decode is the default. A
 //! missing program fails the tests; with PROGRAM_OPTIONAL=1 they are passed over with a message.
 
 use std::fs::File;
@@ -21,7 +21,7 @@ impl Program {
     /// The program, or none if it is missing and may be. Panics if it is missing and may not be.
     pub fn find() -> Option<Program> {
         let root = Path::new(env!("CARGO_MANIFEST_DIR")).join("../..");
-        let named = std::env::var_os("DECODE").unwrap_or("target/bin/decode".into());
+        let named = std::env::var_os("DECODE").unwrap_or("build/bin/decode".into());
         let path = root.join(&named);
         if path.exists() {
             return Some(Program(path));

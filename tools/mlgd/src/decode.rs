@@ -36,7 +36,7 @@ line, block, outcome, rounds, failing, changed, wrong_bits, within_half, reason,
 --decimal-comma   numbers are written 0,5
 --from-one        a list or bare rows count columns from 1
 --jobs N          N runs of the program at a time (1 to 64)
---program PATH    the proved program; else decode beside mlgd, or target/bin/decode of the
+--program PATH    the proved program; else decode beside mlgd, or build/bin/decode of the
                   repository in which mlgd was built, or here
 --one-step        one-step voting on hard bits, by the proved library; no setting
 --words W         received words, one a line: hexadecimal, or zeros and ones

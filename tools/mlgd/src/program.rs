@@ -26,7 +26,7 @@ pub enum BlockLine {
 }
 
 impl Program {
-    /// The program that is named, or the one beside this tool, or the one in target/bin.
+    /// The program that is named, or the one beside this tool, or the one in build/bin.
     pub fn find(named: Option<&str>) -> Result<Program, Fault> {
         if let Some(named) = named {
             return match Path::new(named).is_file() {
@@ -39,20 +39,19 @@ impl Program {
         }
         let found = Program::known().into_iter().find(|path| path.is_file());
         found.map(Program).ok_or_else(|| {
-            let what = "the proved program `decode` is not beside mlgd and not in target/bin";
+            let what = "the proved program `decode` is not beside mlgd and not in build/bin";
             Fault::new("decode", what)
                 .remedy("build it (make decode), or name it by --program PATH")
         })
     }
 
-    /// Where it may be: beside this tool; in target/bin of the repository in which this tool was
-    /// built, as build/release/mlgd; in target/bin here.
+    /// Where it may be: beside this tool; in build/bin of the repository in which this tool was
+    /// built, as build/release/mlgd; in build/bin here.
     fn known() -> Vec<PathBuf> {
         let tool = std::env::current_exe().ok();
         let folder = tool.as_deref().and_then(Path::parent);
-        let near =
-            folder.map(|folder| ["decode", "../../target/bin/decode"].map(|at| folder.join(at)));
-        let here = Path::new(".").join("target/bin/decode");
+        let near = folder.map(|folder| ["decode", "../bin/decode"].map(|at| folder.join(at)));
+        let here = Path::new(".").join("build/bin/decode");
         near.into_iter().flatten().chain([here]).collect()
     }
 

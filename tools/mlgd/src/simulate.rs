@@ -45,7 +45,7 @@ of what came out wrong. A point ends after N blocks, or when 200 of them were wr
 --out RATES.csv   the table; standard output without it
 --svg CURVE.svg   a picture of the rates on a logarithmic axis, with 95 % bars
 --jobs N          N runs of the program at a time (1 to 64)
---program PATH    the proved program; else decode beside mlgd, or target/bin/decode of the
+--program PATH    the proved program; else decode beside mlgd, or build/bin/decode of the
                   repository in which mlgd was built, or here
 --from-one        a list or bare rows count columns from 1
 --samples X.csv   writes the N received blocks of each point to X.csv, and decodes nothing

@@ -19,7 +19,7 @@ pub fn root() -> PathBuf {
 /// The proved program, or none if it is missing and may be, as for the tests of the program:
 /// DECODE names it, and PROGRAM_OPTIONAL=1 passes over its tests.
 pub fn program() -> Option<String> {
-    let named = std::env::var_os("DECODE").unwrap_or("target/bin/decode".into());
+    let named = std::env::var_os("DECODE").unwrap_or("build/bin/decode".into());
     let path = root().join(&named);
     if path.exists() {
         return Some(path.to_string_lossy().into_owned());

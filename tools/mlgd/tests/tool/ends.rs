@@ -179,7 +179,7 @@ fn where_the_program_is_found() {
     let name = format!("found-{}", std::process::id());
     let folder = Folder(Path::new(env!("CARGO_TARGET_TMPDIR")).join(name));
     let heading = "block end rounds failing changed word";
-    for inside in ["other/build/release", "other/target/bin"] {
+    for inside in ["other/build/release", "other/build/bin"] {
         fs::create_dir_all(folder.0.join(inside)).unwrap();
     }
     folder.write("h", alist::text(&codes::code_a()));
@@ -200,7 +200,7 @@ fn where_the_program_is_found() {
     let (status, said) = decode();
     assert_eq!(status, Some(2));
     assert!(said.starts_with("decode: the proved program"), "{said}");
-    for place in ["target/bin/decode", "build/release/decode"] {
+    for place in ["build/bin/decode", "build/release/decode"] {
         let place = folder.0.join("other").join(place);
         symlink(FAKE, &place).unwrap();
         assert_eq!(decode().0, Some(0), "{}", place.display());

@@ -17,11 +17,11 @@ fn found(name: &str) -> PathBuf {
 /// A program that tells how it was called.
 const TELL: &str = concat!(env!("CARGO_MANIFEST_DIR"), "/tests/tell");
 
-/// The Makefile, an rt and a cargo that do nothing, and a tool that tells how it was called. No
-/// python3.
+/// The Makefile, an rt, a cargo and a tools/archive that do nothing, a program as rt leaves it, and
+/// a tool that tells how it was called. No python3.
 fn folder(name: &str) -> Folder {
     let folder = Folder::new(name);
-    for inside in ["bin", "build/release", "target/staticlib"] {
+    for inside in ["bin", "build/release", "tools", "crates/decode/out"] {
         fs::create_dir_all(folder.0.join(inside)).unwrap();
     }
     fs::copy(root().join("Makefile"), folder.0.join("Makefile")).unwrap();
@@ -29,13 +29,16 @@ fn folder(name: &str) -> Folder {
     for (name, program) in [
         ("bin/mkdir", found("mkdir")),
         ("bin/cat", found("cat")),
+        ("bin/cp", found("cp")),
         ("bin/head", found("head")),
         ("bin/rt", nothing.clone()),
-        ("bin/cargo", nothing),
+        ("bin/cargo", nothing.clone()),
+        ("tools/archive", nothing),
         ("build/release/mlgd", TELL.into()),
     ] {
         symlink(program, folder.0.join(name)).unwrap();
     }
+    folder.write("crates/decode/out/decode", "");
     folder.write("build/results.csv", "the table\n");
     folder
 }
