@@ -11,7 +11,7 @@ import sys
 
 ROOT = pathlib.Path(__file__).resolve().parent.parent
 PICTURE = ROOT / "docs" / "families.svg"
-KIT = {"libc", "io", "os", "bytes", "check"}
+KIT = {"io", "bytes"}
 WIDE, HIGH, GAP, LINE = 250, 46, 56, 15
 
 
@@ -20,7 +20,7 @@ def read():
     families, rests = [], {}
     for line in (ROOT / "crates.txt").read_text().splitlines():
         heading = re.fullmatch(r"# (\w+): (.+)", line)
-        crate = re.fullmatch(r"(\w+):\s*(.*)", line)
+        crate = re.fullmatch(r"(\w+)(?: +staticlib)?:\s*(.*)", line)
         if heading:
             families.append((heading[1], heading[2], []))
         elif crate:

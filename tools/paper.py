@@ -2,8 +2,8 @@
 """Holds the papers' definitions apart from the workings.
 
 In each crate specs/Paper/ has what a reader must believe: document 01's definitions and the statements of the theorems.
-With --check: a Paper file may use Paper files of its own and other crates, the program's declared types and the kit's
-libraries, and nothing else; and the table of docs/GUARANTEES.md must name every one of them with its lines. Without, the
+With --check: a Paper file may use Paper files of its own and other crates, the program's declared types, the kit's specs
+and its logic, and nothing else; and the table of docs/GUARANTEES.md must name every one of them with its lines. Without, the
 table's lines are printed.
 """
 import pathlib
@@ -12,8 +12,8 @@ import sys
 
 ROOT = pathlib.Path(__file__).resolve().parent.parent
 PAGE = ROOT / "docs" / "GUARANTEES.md"
-USE = re.compile(r"use (Rattle·\S+?)(\.\{.*)?$")
-ALLOWED = re.compile(r"Rattle·\w+(·specs)?\.specs\.(Paper|declared)\.")
+USE = re.compile(r"\s*(?:pub |unfoldable )*use (Rattle\.\S+?)(\.\{.*| .*)?$")
+ALLOWED = re.compile(r"Rattle\.(std|core)\.specs\.|Rattle\.\w+\.specs\.(Paper|declared)\.")
 
 
 def files():
