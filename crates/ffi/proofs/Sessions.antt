@@ -19,7 +19,7 @@ use Rattle.answers.specs.Paper.Answers.{Verdict, accepted, refused, Said, and_th
 use Rattle.answers.specs.Paper.Enums.{said_of}
 use Rattle.answers.specs.declared.Answer.{Answer}
 use Rattle.packed_word.specs.Paper.Packed.{bit_at}
-use Rattle.matrix.specs.Paper.Code.{Matrix, failing}
+use Rattle.matrix.specs.Paper.Code.{Matrix}
 use Rattle.matrix.specs.Paper.Check.{check_of}
 use Rattle.matrix.specs.Paper.PlainCheck.{Accepted}
 use Rattle.quantiser_levels.specs.Paper.Samples.{Setting, setting_fits, hard_bit}

@@ -11,7 +11,7 @@ use lib.IntN.{pos, nat_abs}
 use lib.ListN.{length, get_or}
 use Rattle.counting.specs.Paper.Lists.{over}
 use Rattle.counting.proofs.Writes.{get_or-listed, get_or-over-new}
-use Rattle.answers.specs.Paper.Answers.{Verdict, accepted, report, outcome_by, written}
+use Rattle.answers.specs.Paper.Answers.{Verdict, accepted, outcome_by, written}
 use Rattle.answers.proofs.Verdicts.{passed, passed_on}
 use Rattle.byte_numbers.specs.Paper.Numbers.{number16, samples_in}
 use Rattle.matrix.specs.Paper.Code.{Matrix, failing}

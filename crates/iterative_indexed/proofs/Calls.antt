@@ -6,7 +6,7 @@
 --   samples-below      == setting and samples are refused by no number above 8
 --   ten-exactly        == the call is refused by 10 exactly where the matrix is accepted and the index is another
 -- Assumes nothing.
-use mathlib.Core.Path.{◌≡◌, refl, sym, ap, ◌∙◌}
+use mathlib.Core.Path.{◌≡◌, sym, ap, ◌∙◌}
 use mathlib.Core.Bool.{not}
 use mathlib.Core.List.{List}
 use Prim.Native.Nat.{ℕ, ◌≤◌}

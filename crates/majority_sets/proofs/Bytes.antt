@@ -16,7 +16,7 @@ use Rattle.counting.specs.Places.{at}
 use Rattle.counting.proofs.Writes.{over-long, over-step, over-at, over-rest}
 use Rattle.matrix_rows.specs.Rows.{word_of, place_of}
 use Rattle.majority_votes.specs.Tallies.{Addable, More, Takeable, Fewer}
-use Rattle.majority_planes.specs.Planes.{sets_count, PlanesLaid}
+use Rattle.majority_planes.specs.Planes.{PlanesLaid}
 use Rattle.majority_bytes.specs.Bytes.{BytesLaid}
 use Rattle.majority_sets.specs.Sets.{listed_votes, BytesCount}
 

@@ -12,8 +12,6 @@ use Prim.Native.Nat.{ℕ, ◌+◌, ◌*◌, ◌/◌, ◌%◌, ◌<◌, ◌≤◌
 use native.Mathlib.Decide.{dec_lt}
 use native.Mathlib.Omega.{arith}
 use borrow.Author.Tests.{lt-ltb, le-ltb}
-use lib.ListN.{length}
-use Rattle.counting.specs.Digits.{binary_digit}
 use Rattle.counting.specs.Paper.Sum.{sum_below}
 use Rattle.counting.specs.Places.{at, among}
 use Rattle.counting.proofs.Sums.{sum-append, sum-cong, sum-zero}

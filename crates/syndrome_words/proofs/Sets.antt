@@ -8,15 +8,12 @@
 --   parities-failing, parities-votes   == what a set of failing checks counts are the failing checks and the votes
 -- Assumes nothing.
 use mathlib.Core.Path.{◌≡◌, refl, sym, ap, ◌∙◌}
-use mathlib.Core.Bool.{true, false, cond}
 use mathlib.Core.List.{List}
 use Prim.Native.Nat.{ℕ, ◌+◌, ◌*◌, ◌/◌, ◌%◌, ◌^◌, ◌<◌, ◌≤◌}
 use native.Mathlib.Omega.{arith}
 use native.Mathlib.Nat.{mul-zero, div-eq_of_lt}
 use lib.Pow.{pow_pos}
-use lib.Dec.{ltb}
 use lib.ListN.{replicate, length-replicate}
-use Rattle.counting.specs.Paper.Sum.{sum_below}
 use Rattle.counting.specs.Places.{at}
 use Rattle.counting.proofs.Sums.{sum-cong, sum-zero}
 use Rattle.counting.proofs.Writes.{zeros}

@@ -1,5 +1,4 @@
 -- `answers::place` meets its contract: each arm is one case of `refusal_place`. Assumes nothing.
-use borrow.Author.Rules.{rules}
 use Rattle.answers.proofs.place.Goals as goal
 
 pub returns-in-Entry : goal.returns-in-Entry

@@ -1,5 +1,4 @@
 -- `answers::refused_when` meets its contract: its test is the definition's. Assumes nothing.
-use borrow.Author.Rules.{rules}
 use Rattle.answers.proofs.refused_when.Goals as goal
 
 pub returns-then-test : goal.returns-then-test

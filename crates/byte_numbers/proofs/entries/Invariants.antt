@@ -1,11 +1,8 @@
 -- `byte_numbers::entries` meets its contract. The invariant: the first i entries are written over the array. Assumes nothing.
-use mathlib.Core.Path.{◌≡◌, sym, ap, ◌∙◌}
-use Prim.Native.Nat.{ℕ, ◌-◌, ◌/◌, ◌≤◌, ◌<◌}
-use native.Mathlib.Omega.{arith}
-use lib.ListN.{length}
+use mathlib.Core.Path.{◌≡◌}
+use Prim.Native.Nat.{◌-◌, ◌≤◌}
 use Rattle.counting.specs.Paper.Lists.{listed, over}
-use Rattle.counting.proofs.Writes.{over_none, over-step, over-long}
-use Rattle.byte_numbers.specs.Paper.Numbers.{entry_in, entries_in}
+use Rattle.byte_numbers.specs.Paper.Numbers.{entry_in}
 use Rattle.byte_numbers.proofs.entries.Given as goal
 
 abbrev pub invariant-loop-i : goal.invariant-loop-i

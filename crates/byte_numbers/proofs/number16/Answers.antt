@@ -1,6 +1,5 @@
 -- `byte_numbers::number16` meets its contract. Assumes nothing.
 use native.Mathlib.Omega.{arith}
-use borrow.Author.Rules.{rules}
 use Rattle.byte_numbers.specs.Paper.Numbers.{number16}
 use Rattle.byte_numbers.proofs.number16.Goals as goal
 

@@ -1,6 +1,5 @@
 -- `byte_numbers::put16` meets its contract. Assumes nothing.
 use native.Mathlib.Numerals.{add-one}
-use borrow.Author.Rules.{rules}
 use Rattle.byte_numbers.proofs.put16.Goals as goal
 
 pub returns : goal.returns

@@ -1,13 +1,11 @@
 use mathlib.Core.Path.{◌≡◌, sym, ap, ap₂, ◌∙◌}
 use mathlib.Core.Bool.{true, false, not, ◌||◌}
-use Prim.Native.Nat.{◌-◌, ◌/◌, ◌≤◌, ◌<◌}
+use Prim.Native.Nat.{◌/◌, ◌<◌}
 use native.Mathlib.Omega.{arith}
 use borrow.Author.Tests.{not-false}
 use lib.ListN.{length}
 use lib.Ieee.{binary32, of_bits}
-use Rattle.counting.specs.Paper.Lists.{listed, over}
 use Rattle.counting.proofs.Writes.{over_none, over-step, over-long}
-use Rattle.counting.specs.Paper.Search.{any_below}
 use Rattle.counting.proofs.Searches.{any_none, any_step, any-clear, first-none, first-at}
 use Rattle.byte_numbers.specs.Paper.Numbers.{sample_in, not_finite_in}
 use Rattle.byte_numbers.proofs.Patterns.{no_nan}

@@ -1,5 +1,4 @@
 -- `changed_bits::changed` meets its contract: refusal 7 by each of the two lengths, else the number of places. Assumes nothing.
-use borrow.Author.Rules.{rules}
 use mathlib.Core.Path.{◌∙◌}
 use native.Mathlib.Omega.{arith}
 use Rattle.changed_bits.specs.Paper.Call.{Comparable}

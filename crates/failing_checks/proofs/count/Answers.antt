@@ -1,5 +1,4 @@
 -- `failing_checks::count` meets its contract: the count is that of the unpacked word. Assumes nothing.
-use borrow.Author.Rules.{rules}
 use mathlib.Core.Path.{◌∙◌}
 use native.Mathlib.Omega.{arith}
 use lib.ListN.{replicate}

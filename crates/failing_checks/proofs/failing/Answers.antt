@@ -1,5 +1,4 @@
 -- `failing_checks::failing`: the matrix check's refusal, else the count on the accepted matrix.
-use borrow.Author.Rules.{rules}
 use mathlib.Core.Path.{sym, ap, ◌∙◌}
 use Rattle.answers.specs.Paper.Enums.{verdict_of, refusal_number, refusal_place}
 use Rattle.matrix.specs.Paper.Shapes.{matrix_of}

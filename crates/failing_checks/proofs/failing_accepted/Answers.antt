@@ -1,5 +1,4 @@
 -- `failing_checks::failing_accepted` meets its contract: a refusal of the received word, else its failing checks. Assumes nothing.
-use borrow.Author.Rules.{rules}
 use Prim.Native.Nat.{ℕ}
 use mathlib.Core.Path.{sym, ap, ◌∙◌}
 use Rattle.answers.specs.Paper.Answers.{count}

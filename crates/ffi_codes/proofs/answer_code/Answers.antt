@@ -3,7 +3,6 @@ use mathlib.Core.Path.{sym, ap, subst, ◌∙◌}
 use Rattle.answers.specs.declared.Answer.{Answer}
 use Rattle.answers.specs.Paper.Enums.{said_of}
 use Rattle.ffi_codes.specs.Codes.{code_of, Small}
-use borrow.Author.Rules.{rules}
 use Rattle.ffi_codes.proofs.answer_code.Goals as goal
 
 pub report_code-requires : goal.report_code-requires

@@ -4,7 +4,6 @@ use Rattle.answers.specs.declared.Checked.{Checked}
 use Rattle.answers.specs.Paper.Enums.{verdict_of}
 use Rattle.answers.specs.Paper.Answers.{after, acceptance}
 use Rattle.ffi_codes.specs.Codes.{code_of}
-use borrow.Author.Rules.{rules}
 use Rattle.ffi_codes.proofs.checked_code.Goals as goal
 
 pub returns-in-Refused : goal.returns-in-Refused

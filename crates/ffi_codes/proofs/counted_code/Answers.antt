@@ -3,7 +3,6 @@ use mathlib.Core.Path.{sym, ap, ◌∙◌}
 use Rattle.answers.specs.declared.Counted.{Counted}
 use Rattle.answers.specs.Paper.Enums.{counted_of}
 use Rattle.ffi_codes.specs.Codes.{code_of}
-use borrow.Author.Rules.{rules}
 use Rattle.ffi_codes.proofs.counted_code.Goals as goal
 
 pub returns-in-Failing : goal.returns-in-Failing

@@ -3,7 +3,6 @@ use mathlib.Core.Path.{ap, ◌∙◌}
 use mathlib.Core.List.{[], ◌∷◌}
 use Prim.Native.Nat.{ℕ}
 use Rattle.counting.specs.Paper.Lists.{over}
-use borrow.Author.Rules.{rules}
 use Rattle.ffi_codes.proofs.session_out.Goals as goal
 
 pub returns : goal.returns

@@ -3,7 +3,6 @@ use mathlib.Core.Path.{sym, ap, ◌∙◌}
 use Rattle.answers.specs.declared.Stored.{Stored}
 use Rattle.answers.specs.Paper.Enums.{stored_of}
 use Rattle.ffi_codes.specs.Codes.{code_of}
-use borrow.Author.Rules.{rules}
 use Rattle.ffi_codes.proofs.stored_code.Goals as goal
 
 pub returns-in-Bytes : goal.returns-in-Bytes

@@ -4,7 +4,6 @@ use Rattle.answers.specs.declared.Answer.{Answer}
 use Rattle.answers.specs.Paper.Enums.{said_of}
 use Rattle.session_record.specs.Paper.Sessions.{record_of}
 use Rattle.ffi_codes.specs.Records.{cells_of, written_by}
-use borrow.Author.Rules.{rules}
 use Rattle.ffi_codes.proofs.turn_out.Goals as goal
 
 pub returns-in-Done : goal.returns-in-Done

@@ -1,5 +1,4 @@
 -- `firmware_asking::setting_by` meets its contract: what stands for the step stands for the setting. Assumes nothing.
-use borrow.Author.Rules.{rules}
 use Rattle.firmware_asking.proofs.Settings.{pattern-stands, stands-through}
 use Rattle.firmware_asking.proofs.setting_by.Goals as goal
 

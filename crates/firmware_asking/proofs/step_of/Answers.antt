@@ -1,7 +1,6 @@
 -- `firmware_asking::step_of` meets its contract: a pattern that is not finite never becomes a float. Assumes nothing.
 use mathlib.Core.Path.{sym, ap, ◌∙◌}
 use mathlib.Core.Bool.{Bool, cond}
-use borrow.Author.Rules.{rules}
 use lib.Ieee.{Float, binary32, of_bits}
 use Rattle.byte_numbers.proofs.Patterns.{no_nan}
 use Rattle.firmware_asking.proofs.step_of.Goals as goal

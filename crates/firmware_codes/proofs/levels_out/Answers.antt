@@ -1,11 +1,9 @@
 use mathlib.Core.Path.{◌≡◌, ap, ◌∙◌}
-use Prim.Native.Nat.{◌-◌, ◌≤◌}
 use native.Mathlib.Nat.{le_antisymm}
 use native.Mathlib.Omega.{arith}
-use borrow.Author.Rules.{rules}
 use lib.IntN.{ℤ, pos}
 use lib.ListN.{length, get_or}
-use lib.Seq.{sets, length-sets}
+use lib.Seq.{length-sets}
 use mir.ValLaws.{to_z-of_z}
 use Rattle.counting.specs.Paper.Joined.{joined}
 use Rattle.quantiser_levels.proofs.Signs.{cell}

@@ -1,17 +1,10 @@
 -- `firmware_codes::levels_out` meets its contract. The invariant: the bytes are as they were, but for those of the first j levels. Assumes nothing.
-use mathlib.Core.Path.{◌≡◌, ap, ◌∙◌}
+use mathlib.Core.Path.{◌≡◌}
 use Prim.Native.Nat.{◌-◌, ◌≤◌}
-use native.Mathlib.Nat.{le_antisymm}
-use native.Mathlib.Omega.{arith}
-use borrow.Author.Rules.{rules}
-use lib.IntN.{ℤ, pos}
-use lib.ListN.{length, get_or}
-use lib.Seq.{sets, length-sets}
-use mir.ValLaws.{to_z-of_z}
+use lib.ListN.{length}
+use lib.Seq.{sets}
 use Rattle.counting.specs.Paper.Joined.{joined}
-use Rattle.quantiser_levels.proofs.Signs.{cell}
-use Rattle.firmware_codes.specs.Paper.Codes.{level_number}
-use Rattle.firmware_codes.proofs.Levels.{bytes_at, levels-none, levels-next, levels-all}
+use Rattle.firmware_codes.proofs.Levels.{bytes_at}
 use Rattle.firmware_codes.proofs.levels_out.Given as goal
 
 abbrev pub invariant-loop-j : goal.invariant-loop-j

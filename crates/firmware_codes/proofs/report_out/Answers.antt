@@ -1,6 +1,5 @@
 -- `firmware_codes::report_out` meets its contract: the report's eight bytes are copied to the front. Assumes nothing.
 use mathlib.Core.Path.{◌∙◌}
-use borrow.Author.Rules.{rules}
 use Rattle.firmware_codes.proofs.report_out.Goals as goal
 
 pub returns : goal.returns

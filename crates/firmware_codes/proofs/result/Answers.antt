@@ -3,7 +3,6 @@ use mathlib.Core.Path.{sym, ap, ◌∙◌}
 use Rattle.answers.specs.declared.Answer.{Answer}
 use Rattle.answers.specs.Paper.Enums.{said_of}
 use Rattle.firmware_codes.specs.Paper.Codes.{result_of}
-use borrow.Author.Rules.{rules}
 use Rattle.firmware_codes.proofs.result.Goals as goal
 
 pub returns-in-Refused : goal.returns-in-Refused

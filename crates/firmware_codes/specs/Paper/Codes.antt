@@ -5,7 +5,7 @@
 --   level_bytes ls    == levels as bytes, two each, low byte first
 --   level_in x        == the level that such a number is
 -- Assumes nothing.
-use Rattle.std.specs.Prelude.{ℕ, ◌+◌, ◌-◌, ◌*◌, cond, List, [], ◌∷◌, ◌++◌, ltb, ℤ, pos, negsuc, length, get_or}
+use Rattle.std.specs.Prelude.{ℕ, ◌+◌, ◌-◌, ◌*◌, cond, List, [], ◌++◌, ltb, ℤ, pos, negsuc, length, get_or}
 use Rattle.counting.specs.Paper.Joined.{joined}
 use Rattle.byte_numbers.specs.Paper.Numbers.{bytes16}
 use Rattle.answers.specs.Paper.Answers.{Said, refusal, report, count, stored, acceptance}

@@ -1,7 +1,6 @@
 -- `firmware_decoding::decode` meets its contract: a refusal by 1 or 2 keeps all three buffers, else what follows on the list. Assumes nothing.
 use mathlib.Core.Path.{◌≡◌, refl, sym, ap, ◌∙◌}
 use mathlib.Core.List.{[]}
-use borrow.Author.Rules.{rules}
 use lib.ListN.{length}
 use Rattle.answers.specs.Paper.Answers.{Verdict, and_then}
 use Rattle.answers.specs.Paper.Enums.{verdict_of, refusal_number, refusal_place}

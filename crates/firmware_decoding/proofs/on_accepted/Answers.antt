@@ -1,6 +1,5 @@
 -- `firmware_decoding::on_accepted` meets its contract: a refusal by 6 or 7 keeps all three buffers, else what follows. Assumes nothing.
 use mathlib.Core.Path.{◌≡◌, sym, ap, ◌∙◌}
-use borrow.Author.Rules.{rules}
 use lib.ListN.{length}
 use Rattle.answers.specs.Paper.Answers.{Verdict, accepted, refuse_at, and_then}
 use Rattle.answers.specs.Paper.Enums.{verdict_of, refusal_number, refusal_place}

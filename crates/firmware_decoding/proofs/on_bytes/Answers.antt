@@ -1,6 +1,5 @@
 -- `firmware_decoding::on_bytes` meets its contract: refusal 8, or the decoding of the samples that the bytes are. Assumes nothing.
 use mathlib.Core.Path.{refl, sym, ap, ◌∙◌}
-use borrow.Author.Rules.{rules}
 use lib.ListN.{length}
 use Rattle.matrix.specs.Paper.Shapes.{matrix_of}
 use Rattle.quantiser_levels.specs.Paper.Samples.{first_not_finite}

@@ -1,7 +1,6 @@
 -- `firmware_decoding::on_few` meets its contract: the entries at the front of the array are those that the bytes are. Assumes nothing.
 use mathlib.Core.Path.{refl, sym, ap, ◌∙◌}
 use Prim.Native.Nat.{◌/◌}
-use borrow.Author.Rules.{rules}
 use lib.ListN.{length}
 use Rattle.byte_numbers.proofs.Lists.{length-entries, entries-front}
 use Rattle.quantiser_settings.specs.Paper.Settings.{setting_of}

@@ -1,6 +1,5 @@
 -- `firmware_decoding::on_list` meets its contract: the matrix check's refusal keeps all three buffers, else what follows. Assumes nothing.
 use mathlib.Core.Path.{sym, ap, ◌∙◌}
-use borrow.Author.Rules.{rules}
 use lib.ListN.{length}
 use Rattle.answers.specs.Paper.Answers.{Verdict}
 use Rattle.answers.specs.Paper.Enums.{verdict_of, refusal_number, refusal_place}

@@ -5,7 +5,6 @@ use Rattle.matrix.specs.Paper.Code.{Matrix}
 use Rattle.matrix.specs.Paper.Shapes.{matrix_of}
 use Rattle.matrix_index.proofs.Parts.{index-long}
 use Rattle.matrix_index.proofs.Filling.{size_is, size_small, index-front, index-fits}
-use borrow.Author.Rules.{rules}
 use Rattle.iterative.proofs.with_index.Goals as goal
 
 pub build-requires : goal.build-requires

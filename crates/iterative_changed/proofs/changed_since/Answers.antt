@@ -1,6 +1,5 @@
 -- `iterative_changed::changed_since` meets its contract: both words are unpacked, the received one is marked. Assumes nothing.
 use mathlib.Core.Path.{◌∙◌}
-use borrow.Author.Rules.{rules}
 use lib.ListN.{replicate}
 use Rattle.iterative_changed.proofs.Marks.{unpacked-bits, packed-changed}
 use Rattle.iterative_changed.proofs.changed_since.Goals as goal

@@ -1,11 +1,8 @@
 -- `iterative_changed::put_turned` meets its contract. The invariant: the first j places are written over the old cells. Assumes nothing.
-use mathlib.Core.Path.{◌≡◌, sym}
+use mathlib.Core.Path.{◌≡◌}
 use Prim.Native.Nat.{◌-◌, ◌≤◌}
-use native.Mathlib.Nat.{le_antisymm}
-use native.Mathlib.Omega.{arith}
 use Rattle.counting.specs.Paper.Lists.{listed, over}
 use Rattle.counting.specs.Places.{at}
-use Rattle.counting.proofs.Writes.{over_none, over-step}
 use Rattle.iterative_changed.specs.Marks.{turned_at}
 use Rattle.iterative_changed.proofs.put_turned.Given as goal
 

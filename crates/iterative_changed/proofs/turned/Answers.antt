@@ -2,7 +2,6 @@
 use mathlib.Core.Path.{◌≡◌, sym, ap, ◌∙◌}
 use Prim.Native.Nat.{ℕ, ◌*◌}
 use native.Mathlib.Omega.{arith}
-use borrow.Author.Rules.{rules}
 use lib.ListN.{length, take, replicate, length-take, length-replicate}
 use Rattle.packed_word.specs.Paper.Packed.{bit_at, bytes_for, distance}
 use Rattle.iterative_changed.proofs.Marks.{turned-places, packed-long, ones-turned}

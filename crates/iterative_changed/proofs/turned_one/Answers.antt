@@ -1,6 +1,5 @@
 -- `iterative_changed::turned_one` meets its contract. Assumes nothing.
 use mathlib.Core.Path.{sym, ap, ◌∙◌}
-use borrow.Author.Rules.{rules}
 use Rattle.counting.specs.Paper.Sum.{same}
 use Rattle.counting.proofs.Sums.{same_refl, same-ne}
 use Rattle.iterative_changed.proofs.turned_one.Goals as goal

@@ -2,7 +2,6 @@
 -- written and counted is theirs at the end. Assumes nothing.
 use mathlib.Core.Path.{refl, ◌∙◌}
 use native.Mathlib.Omega.{arith}
-use borrow.Author.Rules.{rules}
 use lib.ListN.{replicate}
 use Rattle.quantiser_settings.proofs.Ranges.{fits-reads}
 use Rattle.iterative_core.proofs.Results.{run_lent, call-bits, call-restorable, call-decoded}

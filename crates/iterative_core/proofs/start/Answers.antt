@@ -1,5 +1,4 @@
 -- `iterative_core::start` meets its contract: the levels of the samples lie in their range, so that they can be kept. Assumes nothing.
-use borrow.Author.Rules.{rules}
 use Rattle.iterative_core.proofs.Results.{filled-bounded, filled-started}
 use Rattle.iterative_core.proofs.start.Goals as goal
 

@@ -9,7 +9,6 @@ use Rattle.matrix_index.specs.Paper.Index.{index_of}
 use Rattle.matrix_index_check.proofs.Claims.{both-accepted}
 use Rattle.iterative_indexed.proofs.Refusals.{refused-either}
 use Rattle.iterative_indexed.proofs.Calls.{answered-own, answered-alike}
-use borrow.Author.Rules.{rules}
 use Rattle.iterative_indexed.proofs.iterative_indexed.Goals as goal
 
 pub iterative_own-requires : goal.iterative_own-requires

@@ -1,13 +1,12 @@
 use mathlib.Core.Path.{◌≡◌, ap, ◌∙◌}
-use Prim.Native.Nat.{◌-◌, ◌≤◌, ◌<◌}
+use Prim.Native.Nat.{◌<◌}
 use native.Mathlib.Nat.{le_antisymm}
 use native.Mathlib.Omega.{arith}
-use borrow.Author.Rules.{rules}
 use lib.IntN.{pos}
 use lib.ListN.{get_or}
 use mir.Val.{to_z, of_z}
 use mir.ValLaws.{to_z-of_z}
-use Rattle.iterative_levels.specs.Levels.{biased, Biased}
+use Rattle.iterative_levels.specs.Levels.{biased}
 use Rattle.quantiser_levels.proofs.Signs.{cell}
 use Rattle.iterative_levels.proofs.Signs.{level-cell}
 use Rattle.iterative_levels.proofs.Passes.{biased-none, biased-step}

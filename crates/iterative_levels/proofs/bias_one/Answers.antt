@@ -1,7 +1,6 @@
 -- `iterative_levels::bias_one` meets its contract: the sum of a level and the middle fits, and is the number that keeps it. Assumes nothing.
 use mathlib.Core.Path.{ap}
 use native.Mathlib.Omega.{arith}
-use borrow.Author.Rules.{rules}
 use lib.IntN.{nat_abs}
 use Rattle.iterative_levels.proofs.Levels.{biased-le}
 use Rattle.iterative_levels.proofs.Signs.{sum_fits, sum_back}

@@ -1,14 +1,7 @@
 -- `iterative_levels::unbias` meets its contract. The invariant: the first j levels are written over the old ones. Assumes nothing.
-use mathlib.Core.Path.{◌≡◌, sym, ◌∙◌}
+use mathlib.Core.Path.{◌≡◌}
 use Prim.Native.Nat.{◌-◌, ◌≤◌}
-use native.Mathlib.Nat.{le_antisymm}
-use native.Mathlib.Omega.{arith}
-use borrow.Author.Rules.{rules, sfits_of}
-use mir.ValLaws.{to_z-of_z}
-use lib.ListN.{length}
 use Rattle.counting.specs.Paper.Lists.{listed, over}
-use Rattle.counting.proofs.Writes.{over_none, over-long, over-step}
-use Rattle.quantiser_levels.proofs.Signs.{cell}
 use Rattle.iterative_levels.specs.Levels.{unbiased}
 use Rattle.iterative_levels.proofs.unbias.Given as goal
 

@@ -1,5 +1,4 @@
 -- `iterative_levels::unbias_one` meets its contract: the difference of a number and the middle fits a level. Assumes nothing.
-use borrow.Author.Rules.{rules}
 use Rattle.iterative_levels.proofs.Signs.{difference-fits, level-back}
 use Rattle.iterative_levels.proofs.unbias_one.Goals as goal
 

@@ -1,9 +1,7 @@
-use Prim.Native.Nat.{◌-◌, ◌≤◌, ◌<◌}
+use Prim.Native.Nat.{◌<◌}
 use native.Mathlib.Nat.{le_antisymm}
 use native.Mathlib.Omega.{arith}
-use borrow.Author.Rules.{rules}
 use Rattle.counting.specs.Places.{at}
-use Rattle.iterative_levels.specs.Levels.{Moved}
 use Rattle.iterative_levels.proofs.Passes.{moved_none, moved-step}
 use Rattle.iterative_levels.proofs.update.Goals as goal
 

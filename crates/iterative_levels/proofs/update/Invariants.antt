@@ -1,12 +1,8 @@
 -- `iterative_levels::update` meets its contract. The invariant: the first j bits and levels are those of the next round, the others as they were.
 -- Assumes nothing.
-use Prim.Native.Nat.{◌-◌, ◌≤◌, ◌<◌}
-use native.Mathlib.Nat.{le_antisymm}
-use native.Mathlib.Omega.{arith}
-use borrow.Author.Rules.{rules}
+use Prim.Native.Nat.{◌-◌, ◌≤◌}
 use Rattle.counting.specs.Places.{at}
 use Rattle.iterative_levels.specs.Levels.{Moved}
-use Rattle.iterative_levels.proofs.Passes.{moved_none, moved-step}
 use Rattle.iterative_levels.proofs.update.Given as goal
 
 abbrev pub invariant-loop-j : goal.invariant-loop-j

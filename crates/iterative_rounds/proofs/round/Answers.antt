@@ -1,7 +1,6 @@
 -- `iterative_rounds::round` meets its contract: each bit is moved by its column's weight, and what `update` leaves are bits, so that their votes
 -- can be tallied. Assumes nothing.
 use native.Mathlib.Omega.{arith}
-use borrow.Author.Rules.{rules}
 use Rattle.matrix.specs.Paper.Shapes.{matrix_of}
 use Rattle.iterative_rounds.proofs.States.{weighed-moved}
 use Rattle.iterative_rounds.proofs.Runs.{moved_word}

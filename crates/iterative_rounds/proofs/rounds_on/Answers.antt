@@ -1,11 +1,8 @@
 use mathlib.Core.Path.{◌≡◌}
-use Prim.Native.Nat.{◌-◌}
-use Rattle.counting.specs.Places.{at}
-use Rattle.syndrome_update.specs.Parities.{Parities}
 use native.Mathlib.Omega.{arith}
 use Rattle.matrix.specs.Paper.Shapes.{matrix_of}
 use Rattle.syndrome_update.proofs.KeptParities.{zero_word, zero-parities}
-use Rattle.iterative_rounds.proofs.Runs.{Going, going-starts, going-lent, going-ends, going_step}
+use Rattle.iterative_rounds.proofs.Runs.{going-starts, going-lent, going-ends, going_step}
 use Rattle.iterative_rounds.proofs.rounds_on.Goals as goal
 
 pub retally-failing-requires : goal.retally-failing-requires

@@ -1,13 +1,10 @@
 -- `iterative_rounds::rounds_on` meets its contract. The invariant, `Going`: the arrays hold the state after k rounds, the parities, the votes and the count
 -- of failing checks are those of its bits, and a check of every earlier state fails. Assumes nothing.
-use mathlib.Core.Path.{◌≡◌}
 use Prim.Native.Nat.{◌-◌}
 use Rattle.counting.specs.Places.{at}
 use Rattle.syndrome_update.specs.Parities.{Parities}
-use native.Mathlib.Omega.{arith}
 use Rattle.matrix.specs.Paper.Shapes.{matrix_of}
-use Rattle.syndrome_update.proofs.KeptParities.{zero_word, zero-parities}
-use Rattle.iterative_rounds.proofs.Runs.{Going, going-starts, going-lent, going-ends, going_step}
+use Rattle.iterative_rounds.proofs.Runs.{Going}
 use Rattle.iterative_rounds.proofs.rounds_on.Given as goal
 
 abbrev pub invariant-loop-k : goal.invariant-loop-k

@@ -8,7 +8,7 @@
 --   End                   == a k and a state
 --   end_of H L k left s   == k and the state with which the list ends, from round k, with `left` rounds to go
 -- Assumes nothing.
-use Rattle.std.specs.Prelude.{ℕ, zero, suc, ◌+◌, ◌*◌, ◌%◌, Bool, true, false, eqb, ℤ, pos, negsuc, ◌+ℤ◌, ◌*ℤ◌}
+use Rattle.std.specs.Prelude.{ℕ, zero, suc, ◌*◌, ◌%◌, Bool, true, false, eqb, ℤ, pos, negsuc, ◌+ℤ◌, ◌*ℤ◌}
 use Rattle.counting.specs.Paper.Sum.{sum_below, unequal}
 use Rattle.counting.specs.Paper.Integers.{sumℤ, cut, above_zero}
 use Rattle.matrix.specs.Paper.Code.{Matrix, entry, has, failing}

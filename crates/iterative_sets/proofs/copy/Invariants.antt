@@ -1,12 +1,8 @@
 -- `iterative_sets::copy` meets its contract. The invariant: the first j bits are written over the old cells. Assumes nothing.
-use mathlib.Core.Path.{◌≡◌, refl, sym}
+use mathlib.Core.Path.{◌≡◌}
 use Prim.Native.Nat.{◌-◌, ◌≤◌}
-use native.Mathlib.Nat.{le_antisymm}
-use native.Mathlib.Omega.{arith}
-use borrow.Author.Rules.{rules}
 use Rattle.counting.specs.Paper.Lists.{listed, over}
 use Rattle.counting.specs.Places.{at}
-use Rattle.counting.proofs.Writes.{over_none, over-step}
 use Rattle.iterative_sets.proofs.copy.Given as goal
 
 abbrev pub invariant-loop-j : goal.invariant-loop-j

@@ -1,7 +1,5 @@
 -- `iterative_sets::retally` meets its contract: the set of failing checks is turned over at the flipped bits' columns, and its votes follow.
 -- Assumes nothing.
-use native.Mathlib.Omega.{arith}
-use borrow.Author.Rules.{rules}
 use Rattle.counting.specs.Places.{at}
 use Rattle.matrix.specs.Paper.Code.{Matrix}
 use Rattle.matrix.specs.Paper.Shapes.{matrix_of}

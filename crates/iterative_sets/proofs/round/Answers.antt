@@ -2,7 +2,6 @@
 -- checks of the bits before. Assumes nothing.
 use mathlib.Core.Path.{◌∙◌}
 use native.Mathlib.Omega.{arith}
-use borrow.Author.Rules.{rules}
 use Rattle.counting.specs.Places.{at}
 use Rattle.counting.proofs.Writes.{over-long}
 use Rattle.matrix.specs.Paper.Code.{Matrix}

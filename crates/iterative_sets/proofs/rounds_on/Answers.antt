@@ -1,14 +1,9 @@
 use mathlib.Core.Path.{◌≡◌, refl}
-use Prim.Native.Nat.{◌-◌}
 use native.Mathlib.Omega.{arith}
-use borrow.Author.Rules.{rules}
-use lib.ListN.{length}
-use Rattle.counting.specs.Places.{at}
 use Rattle.matrix.specs.Paper.Shapes.{matrix_of}
 use Rattle.syndrome_update.proofs.KeptParities.{zero_word}
 use Rattle.syndrome_words.proofs.Sets.{zero-parities, zero-votes}
-use Rattle.iterative_rounds.proofs.Runs.{Going, going-starts, going-lent, going-ends, going_step}
-use Rattle.iterative_sets.specs.Rounds.{SetRetallied}
+use Rattle.iterative_rounds.proofs.Runs.{going-starts, going-lent, going-ends, going_step}
 use Rattle.iterative_sets.proofs.Sets.{set-tallied}
 use Rattle.iterative_sets.proofs.rounds_on.Goals as goal
 

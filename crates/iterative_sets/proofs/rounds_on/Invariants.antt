@@ -1,17 +1,12 @@
 -- `iterative_sets::rounds_on` meets its contract. The invariant: `Going` of `iterative_rounds`, and the set of failing checks, its votes and its count
 -- are those of the bits. Assumes nothing.
-use mathlib.Core.Path.{◌≡◌, refl}
+use mathlib.Core.Path.{◌≡◌}
 use Prim.Native.Nat.{◌-◌}
-use native.Mathlib.Omega.{arith}
-use borrow.Author.Rules.{rules}
 use lib.ListN.{length}
 use Rattle.counting.specs.Places.{at}
 use Rattle.matrix.specs.Paper.Shapes.{matrix_of}
-use Rattle.syndrome_update.proofs.KeptParities.{zero_word}
-use Rattle.syndrome_words.proofs.Sets.{zero-parities, zero-votes}
-use Rattle.iterative_rounds.proofs.Runs.{Going, going-starts, going-lent, going-ends, going_step}
+use Rattle.iterative_rounds.proofs.Runs.{Going}
 use Rattle.iterative_sets.specs.Rounds.{SetRetallied}
-use Rattle.iterative_sets.proofs.Sets.{set-tallied}
 use Rattle.iterative_sets.proofs.rounds_on.Given as goal
 
 abbrev pub invariant-loop-k : goal.invariant-loop-k

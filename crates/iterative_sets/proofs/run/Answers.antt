@@ -1,10 +1,8 @@
 -- `iterative_sets::run` meets its contract: the columns and the rows are parts of the sets, and the weights behind the columns are the columns' weights.
 -- Assumes nothing.
-use mathlib.Core.Path.{◌≡◌, refl, sym, ap, subst, ◌∙◌}
-use mathlib.Core.List.{List}
+use mathlib.Core.Path.{refl, sym, ap, subst, ◌∙◌}
 use Prim.Native.Nat.{ℕ, ◌-◌, ◌*◌, ◌≤◌}
 use native.Mathlib.Omega.{arith}
-use borrow.Author.Rules.{rules}
 use lib.ListN.{length, take, drop, replicate, length-drop}
 use lib.Seq.{length-take-le, take_all}
 use Rattle.matrix.specs.Paper.Code.{Matrix}
@@ -43,14 +41,14 @@ slice_bounds-rounds_on-count c =
     let from : ℕ = 17 * c.args.shape.n in
     let lent : Matrix = matrix_of c.args.shape c.args.list.now in
     let front : from ≤ length c.args.sets.now = omega (arith, (sets-room (lent) {k = length c.args.sets.now} (omega (arith, ap length c.requires.1, sets-long (lent)))).0) in
-    front
+    omega (arith, front)
 
 pub slice_bounds-rounds_on-start : goal.slice_bounds-rounds_on-start
 slice_bounds-rounds_on-start c =
     let from : ℕ = 17 * c.args.shape.n in
     let lent : Matrix = matrix_of c.args.shape c.args.list.now in
     let front : from ≤ length c.args.sets.now = omega (arith, (sets-room (lent) {k = length c.args.sets.now} (omega (arith, ap length c.requires.1, sets-long (lent)))).0) in
-    front
+    omega (arith, front)
 
 pub rounds_on-requires : goal.rounds_on-requires
 rounds_on-requires c =

@@ -1,6 +1,5 @@
 -- `iterative_tally::renew`: the rows of the flipped bits' columns turned over, or all rows done anew.
 use native.Mathlib.Omega.{arith}
-use borrow.Author.Rules.{rules}
 use Rattle.counting.specs.Places.{at}
 use Rattle.matrix.specs.Paper.Code.{Matrix}
 use Rattle.matrix.specs.Paper.Shapes.{matrix_of}

@@ -1,7 +1,6 @@
 -- `iterative_tally::retally`: the parities become those of the new word, and its failing rows, added to a cleared array, are the votes.
 use mathlib.Core.List.{List}
 use Prim.Native.Nat.{ℕ}
-use borrow.Author.Rules.{rules}
 use Rattle.counting.specs.Places.{at}
 use Rattle.matrix.specs.Paper.Code.{Matrix, fails}
 use Rattle.matrix.specs.Paper.Shapes.{matrix_of}

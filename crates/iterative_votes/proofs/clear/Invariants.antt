@@ -1,12 +1,8 @@
 -- `iterative_votes::clear`. The loop's invariant: the first `j` votes are cleared.
 use Prim.Native.Nat.{◌-◌, ◌≤◌}
-use mathlib.Core.Path.{◌≡◌, sym}
-use native.Mathlib.Nat.{le_antisymm}
-use native.Mathlib.Omega.{arith}
+use mathlib.Core.Path.{◌≡◌}
 use Rattle.counting.specs.Paper.Lists.{listed, over}
-use Rattle.counting.proofs.Writes.{over_none, over-step}
 use Rattle.iterative_votes.specs.Kept.{no_votes}
-use Rattle.iterative_votes.proofs.Kept.{none_is}
 use Rattle.iterative_votes.proofs.clear.Given as goal
 
 abbrev pub invariant-loop-j : goal.invariant-loop-j

@@ -1,5 +1,4 @@
 -- `iterative_votes::move_votes`: the checks that only `parity` has add their votes, and those that only `was` has take theirs away.
-use borrow.Author.Rules.{rules}
 use Rattle.matrix.specs.Paper.Shapes.{matrix_of}
 use Rattle.syndrome_words.specs.Sets.{only_in}
 use Rattle.iterative_votes.proofs.Kept.{listed-few, only-small, begun-room, ended-there, moved}

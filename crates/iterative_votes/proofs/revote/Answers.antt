@@ -1,6 +1,5 @@
 -- `iterative_votes::revote`: either way the votes are those of the set, and what it has apart from the empty set is the number of its checks.
 use mathlib.Core.Path.{refl, ◌∙◌}
-use borrow.Author.Rules.{rules}
 use lib.ListN.{replicate}
 use Rattle.matrix.specs.Paper.Shapes.{matrix_of}
 use Rattle.syndrome_sets.proofs.Counts.{failing-apart}

@@ -1,5 +1,4 @@
 -- `iterative_votes::vote_anew`: the checks of the set are those that it has and the empty set has not; added where there are no votes, theirs are the votes.
-use borrow.Author.Rules.{rules}
 use lib.ListN.{replicate}
 use Rattle.matrix.specs.Paper.Shapes.{matrix_of}
 use Rattle.syndrome_words.specs.Sets.{only_in}

@@ -1,9 +1,6 @@
-use mathlib.Core.Path.{◌≡◌}
-use Prim.Native.Nat.{ℕ, ◌*◌, ◌-◌, ◌/◌, ◌%◌, ◌≤◌, ◌<◌}
+use Prim.Native.Nat.{ℕ}
 use native.Mathlib.Omega.{arith}
-use lib.ListN.{length, length-replicate}
-use Rattle.counting.specs.Places.{at}
-use Rattle.majority_bytes.specs.Bytes.{byte_of}
+use lib.ListN.{length-replicate}
 use Rattle.majority_bytes.proofs.Bytes.{laid-step, laid-all}
 use Rattle.majority_bytes.proofs.lay.Goals as goal
 

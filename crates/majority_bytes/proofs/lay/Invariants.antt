@@ -1,11 +1,9 @@
 -- `majority_bytes::lay` meets its contract. The invariant: the bytes of the first q words are written. Assumes nothing.
 use mathlib.Core.Path.{◌≡◌}
 use Prim.Native.Nat.{ℕ, ◌*◌, ◌-◌, ◌/◌, ◌%◌, ◌≤◌, ◌<◌}
-use native.Mathlib.Omega.{arith}
-use lib.ListN.{length, length-replicate}
+use lib.ListN.{length}
 use Rattle.counting.specs.Places.{at}
 use Rattle.majority_bytes.specs.Bytes.{byte_of}
-use Rattle.majority_bytes.proofs.Bytes.{laid-step, laid-all}
 use Rattle.majority_bytes.proofs.lay.Given as goal
 
 abbrev pub invariant-loop-q : goal.invariant-loop-q

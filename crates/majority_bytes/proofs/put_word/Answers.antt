@@ -1,10 +1,7 @@
-use mathlib.Core.Path.{◌≡◌, refl, ◌∙◌}
-use Prim.Native.Nat.{ℕ, ◌+◌, ◌-◌, ◌≤◌, ◌<◌}
+use mathlib.Core.Path.{refl, ◌∙◌}
 use native.Mathlib.Nat.{not-suc-le-zero}
 use native.Mathlib.Omega.{arith}
-use lib.ListN.{length, length-set}
-use Rattle.counting.specs.Places.{at}
-use Rattle.majority_bytes.specs.Bytes.{byte_of}
+use lib.ListN.{length-set}
 use Rattle.majority_bytes.proofs.Bytes.{byte-shift, put-before, put_step}
 use Rattle.majority_bytes.proofs.put_word.Goals as goal
 

@@ -1,12 +1,9 @@
 -- `majority_bytes::put_word` meets its contract. The invariant: the first r bytes of x are written, and those before them stay. Assumes nothing.
-use mathlib.Core.Path.{◌≡◌, refl, ◌∙◌}
+use mathlib.Core.Path.{◌≡◌}
 use Prim.Native.Nat.{ℕ, ◌+◌, ◌-◌, ◌≤◌, ◌<◌}
-use native.Mathlib.Nat.{not-suc-le-zero}
-use native.Mathlib.Omega.{arith}
-use lib.ListN.{length, length-set}
+use lib.ListN.{length}
 use Rattle.counting.specs.Places.{at}
 use Rattle.majority_bytes.specs.Bytes.{byte_of}
-use Rattle.majority_bytes.proofs.Bytes.{byte-shift, put-before, put_step}
 use Rattle.majority_bytes.proofs.put_word.Given as goal
 
 abbrev pub invariant-loop-r : goal.invariant-loop-r

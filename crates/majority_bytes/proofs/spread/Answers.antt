@@ -1,5 +1,4 @@
 -- `majority_bytes::spread` meets its contract. Assumes nothing.
-use borrow.Author.Rules.{rules}
 use Rattle.majority_bytes.proofs.Spreads.{spread-mask}
 use Rattle.majority_bytes.proofs.spread.Goals as goal
 

@@ -1,6 +1,5 @@
 -- `majority_bytes::wide` meets its contract: each of the six words is at most 0x0101010101010101, so the sums fit. Assumes nothing.
 use native.Mathlib.Omega.{arith}
-use borrow.Author.Rules.{rules}
 use Rattle.majority_bytes.proofs.Spreads.{spread-most, wide-planes}
 use Rattle.majority_bytes.proofs.wide.Goals as goal
 

@@ -1,10 +1,4 @@
-use mathlib.Core.Path.{◌≡◌}
-use Prim.Native.Nat.{ℕ, ◌*◌, ◌-◌, ◌/◌, ◌%◌, ◌≤◌, ◌<◌}
 use native.Mathlib.Omega.{arith}
-use lib.ListN.{length}
-use Rattle.counting.specs.Places.{at}
-use Rattle.majority_planes.specs.Planes.{plane_value}
-use Rattle.majority_bytes.specs.Bytes.{wide_of}
 use Rattle.majority_bytes.proofs.widen.Goals as goal
 
 pub loop-s-init : goal.loop-s-init

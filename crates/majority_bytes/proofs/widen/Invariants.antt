@@ -1,7 +1,6 @@
 -- `majority_bytes::widen` meets its contract. The invariant: the words for the first s places are written. Assumes nothing.
 use mathlib.Core.Path.{◌≡◌}
 use Prim.Native.Nat.{ℕ, ◌*◌, ◌-◌, ◌/◌, ◌%◌, ◌≤◌, ◌<◌}
-use native.Mathlib.Omega.{arith}
 use lib.ListN.{length}
 use Rattle.counting.specs.Places.{at}
 use Rattle.majority_planes.specs.Planes.{plane_value}

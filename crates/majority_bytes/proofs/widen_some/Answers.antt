@@ -1,10 +1,6 @@
-use mathlib.Core.Path.{◌≡◌, ◌∙◌}
-use Prim.Native.Nat.{ℕ, ◌+◌, ◌*◌, ◌-◌, ◌/◌, ◌%◌, ◌≤◌, ◌<◌}
+use mathlib.Core.Path.{◌∙◌}
 use native.Mathlib.Omega.{arith}
-use lib.ListN.{length, length-set}
-use Rattle.counting.specs.Places.{at}
-use Rattle.majority_planes.specs.Planes.{plane_value}
-use Rattle.majority_bytes.specs.Bytes.{wide_of}
+use lib.ListN.{length-set}
 use Rattle.majority_bytes.proofs.Bytes.{word-step}
 use Rattle.majority_bytes.proofs.widen_some.Goals as goal
 

@@ -4,7 +4,6 @@ use Prim.Native.Nat.{ℕ}
 use native.Mathlib.Omega.{arith}
 use Rattle.counting.specs.Places.{at}
 use Rattle.syndrome.specs.Places.{ones_at}
-use borrow.Author.Rules.{rules}
 use Rattle.majority_columns.proofs.odd_among.Goals as goal
 
 pub odd_rows-requires : goal.odd_rows-requires

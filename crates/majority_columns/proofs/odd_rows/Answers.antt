@@ -1,9 +1,7 @@
-use Prim.Native.Nat.{◌+◌, ◌-◌, ◌≤◌}
-use mathlib.Core.Path.{◌≡◌}
+use Prim.Native.Nat.{◌+◌}
 use native.Mathlib.Nat.{le_antisymm}
 use native.Mathlib.Omega.{arith}
 use Rattle.counting.specs.Places.{at}
-use Rattle.syndrome.specs.Places.{ones_at}
 use Rattle.majority_columns.proofs.Columns.{ones_none, ones_step, ones-most}
 use Rattle.majority_columns.proofs.odd_rows.Goals as goal
 

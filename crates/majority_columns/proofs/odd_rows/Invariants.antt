@@ -1,11 +1,8 @@
 -- `majority_columns::odd_rows`. The loop's invariant: `v` is the sum of the parities at the first `k` rows of the part.
-use Prim.Native.Nat.{◌+◌, ◌-◌, ◌≤◌}
+use Prim.Native.Nat.{◌-◌, ◌≤◌}
 use mathlib.Core.Path.{◌≡◌}
-use native.Mathlib.Nat.{le_antisymm}
-use native.Mathlib.Omega.{arith}
 use Rattle.counting.specs.Places.{at}
 use Rattle.syndrome.specs.Places.{ones_at}
-use Rattle.majority_columns.proofs.Columns.{ones_none, ones_step, ones-most}
 use Rattle.majority_columns.proofs.odd_rows.Given as goal
 
 abbrev pub invariant-loop-k : goal.invariant-loop-k

@@ -1,11 +1,8 @@
 -- `majority_columns::tally_columns`. The loop's invariant: the votes on the first `j` bits are written over the old ones.
 use Prim.Native.Nat.{◌-◌, ◌≤◌}
-use mathlib.Core.Path.{◌≡◌, sym}
-use native.Mathlib.Nat.{le_antisymm}
-use native.Mathlib.Omega.{arith}
+use mathlib.Core.Path.{◌≡◌}
 use Rattle.counting.specs.Paper.Lists.{listed, over}
 use Rattle.counting.specs.Places.{at}
-use Rattle.counting.proofs.Writes.{over_none, over-long, over-step}
 use Rattle.majority_columns.specs.ColumnVotes.{column_votes}
 use Rattle.majority_columns.proofs.tally_columns.Given as goal
 

@@ -2,7 +2,6 @@
 use native.Mathlib.Omega.{arith}
 use Rattle.counting.specs.Places.{at}
 use Rattle.majority_columns.proofs.Columns.{votes-is, few-at}
-use borrow.Author.Rules.{rules}
 use Rattle.majority_columns.proofs.votes_on.Goals as goal
 
 pub overflow_cast-from : goal.overflow_cast-from

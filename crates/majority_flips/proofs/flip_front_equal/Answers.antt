@@ -1,9 +1,7 @@
-use Prim.Native.Nat.{◌-◌, ◌≤◌}
 use mathlib.Core.Path.{sym, ◌∙◌}
 use native.Mathlib.Nat.{le_antisymm, le_refl}
 use native.Mathlib.Omega.{arith}
 use Rattle.matrix_degrees.specs.Degrees.{always}
-use Rattle.majority_flips.specs.Flips.{VotedBits}
 use Rattle.majority_flips.proofs.Flips.{voted-none, voted-step}
 use Rattle.majority_flips.proofs.flip_front_equal.Goals as goal
 

@@ -1,11 +1,7 @@
 -- `majority_flips::flip_front_equal`. The loop's invariant: the first `j` bits are voted on, the others are as they were.
 use Prim.Native.Nat.{◌-◌, ◌≤◌}
-use mathlib.Core.Path.{sym, ◌∙◌}
-use native.Mathlib.Nat.{le_antisymm, le_refl}
-use native.Mathlib.Omega.{arith}
 use Rattle.matrix_degrees.specs.Degrees.{always}
 use Rattle.majority_flips.specs.Flips.{VotedBits}
-use Rattle.majority_flips.proofs.Flips.{voted-none, voted-step}
 use Rattle.majority_flips.proofs.flip_front_equal.Given as goal
 
 abbrev pub invariant-loop-j : goal.invariant-loop-j

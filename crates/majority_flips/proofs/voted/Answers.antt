@@ -1,5 +1,4 @@
 -- `majority_flips::voted`: the test as a byte turns the bit over.
-use borrow.Author.Rules.{rules}
 use Prim.Native.Nat.{◌*◌}
 use lib.Dec.{ltb}
 use Rattle.majority_flips.proofs.Flips.{flip-bit}

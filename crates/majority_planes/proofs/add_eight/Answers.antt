@@ -1,6 +1,5 @@
 -- `majority_planes::add_eight`: seven adders of three words, and three of two, the last without a carry.
-use borrow.Author.Rules.{rules}
-use Rattle.majority_planes.proofs.Adders.{Added, eight-added}
+use Rattle.majority_planes.proofs.Adders.{eight-added}
 use Rattle.majority_planes.proofs.add_eight.Goals as goal
 
 pub returns : goal.returns

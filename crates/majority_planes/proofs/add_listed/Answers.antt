@@ -1,8 +1,7 @@
 -- `majority_planes::add_listed`: word w of eight listed sets.
 use Prim.Native.Nat.{◌+◌}
 use native.Mathlib.Omega.{arith}
-use borrow.Author.Rules.{rules}
-use Rattle.majority_planes.proofs.Counts.{set_at, EightWords, eight-listed}
+use Rattle.majority_planes.proofs.Counts.{set_at, eight-listed}
 use Rattle.majority_planes.proofs.add_listed.Goals as goal
 
 pub word_of-requires : goal.word_of-requires

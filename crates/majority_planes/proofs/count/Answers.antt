@@ -1,8 +1,7 @@
 use mathlib.Core.Path.{◌≡◌}
-use Prim.Native.Nat.{◌+◌, ◌-◌, ◌*◌, ◌≤◌}
+use Prim.Native.Nat.{◌+◌, ◌*◌}
 use native.Mathlib.Nat.{le_antisymm}
 use native.Mathlib.Omega.{arith}
-use Rattle.majority_planes.specs.Adders.{PlanesTo}
 use Rattle.majority_planes.proofs.Counts.{planes-none, planes-all}
 use Rattle.majority_planes.proofs.count.Goals as goal
 

@@ -1,10 +1,6 @@
 -- `majority_planes::count`. The loop's invariant: the planes have the counts in the words before word 2 h.
-use mathlib.Core.Path.{◌≡◌}
-use Prim.Native.Nat.{◌+◌, ◌-◌, ◌*◌, ◌≤◌}
-use native.Mathlib.Nat.{le_antisymm}
-use native.Mathlib.Omega.{arith}
+use Prim.Native.Nat.{◌-◌, ◌*◌, ◌≤◌}
 use Rattle.majority_planes.specs.Adders.{PlanesTo}
-use Rattle.majority_planes.proofs.Counts.{planes-none, planes-all}
 use Rattle.majority_planes.proofs.count.Given as goal
 
 abbrev pub invariant-loop-h : goal.invariant-loop-h

@@ -1,8 +1,8 @@
 use mathlib.Core.Path.{◌≡◌, sym, ap, ◌∙◌}
-use Prim.Native.Nat.{ℕ, ◌+◌, ◌-◌, ◌*◌, ◌<◌, ◌≤◌}
+use Prim.Native.Nat.{ℕ, ◌+◌, ◌*◌}
 use native.Mathlib.Nat.{le_antisymm}
 use native.Mathlib.Omega.{arith}
-use Rattle.majority_planes.specs.Planes.{six_digits, sets_count}
+use Rattle.majority_planes.specs.Planes.{sets_count}
 use Rattle.majority_planes.proofs.Counts.{none-six, count_none, count_next, planes-pair}
 use Rattle.majority_planes.proofs.count_pair.Goals as goal
 

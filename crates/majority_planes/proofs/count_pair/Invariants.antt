@@ -1,10 +1,7 @@
 -- `majority_planes::count_pair`. The loop's invariant: the digits are those of the counts of the first 8 q listed sets, in both words.
-use mathlib.Core.Path.{◌≡◌, sym, ap, ◌∙◌}
+use mathlib.Core.Path.{◌≡◌}
 use Prim.Native.Nat.{ℕ, ◌+◌, ◌-◌, ◌*◌, ◌<◌, ◌≤◌}
-use native.Mathlib.Nat.{le_antisymm}
-use native.Mathlib.Omega.{arith}
 use Rattle.majority_planes.specs.Planes.{six_digits, sets_count}
-use Rattle.majority_planes.proofs.Counts.{none-six, count_none, count_next, planes-pair}
 use Rattle.majority_planes.proofs.count_pair.Given as goal
 
 abbrev pub invariant-loop-q : goal.invariant-loop-q

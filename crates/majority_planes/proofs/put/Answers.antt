@@ -1,5 +1,4 @@
 -- `majority_planes::put`: six stores.
-use borrow.Author.Rules.{rules}
 use Rattle.majority_planes.proofs.Counts.{six-put}
 use Rattle.majority_planes.proofs.put.Goals as goal
 

@@ -1,9 +1,7 @@
 -- `majority_sets::add`: one by one, or the first of them so and the others in eights.
-use Prim.Native.Nat.{◌+◌, ◌*◌, ◌/◌, ◌%◌, ◌≤◌}
 use native.Mathlib.Omega.{arith}
 use Rattle.matrix.specs.Paper.Shapes.{matrix_of}
 use Rattle.majority_sets.proofs.Shares.{sets-there, sets-six, first-parts, first-room, rest-room, both-more}
-use borrow.Author.Rules.{rules}
 use Rattle.majority_sets.proofs.add.Goals as goal
 
 pub add_rows-requires-2 : goal.add_rows-requires-2

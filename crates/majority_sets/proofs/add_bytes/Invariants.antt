@@ -1,12 +1,8 @@
 -- `majority_sets::add_bytes`. The loop's invariant: the first `j` bytes are added.
-use mathlib.Core.Path.{◌≡◌, sym}
+use mathlib.Core.Path.{◌≡◌}
 use Prim.Native.Nat.{◌+◌, ◌-◌, ◌≤◌}
-use native.Mathlib.Nat.{le_antisymm}
-use native.Mathlib.Omega.{arith}
 use Rattle.counting.specs.Paper.Lists.{listed, over}
 use Rattle.counting.specs.Places.{at}
-use Rattle.counting.proofs.Writes.{over_none, over-rest}
-use Rattle.majority_sets.proofs.Bytes.{add_step}
 use Rattle.majority_sets.proofs.add_bytes.Given as goal
 
 abbrev pub invariant-loop-j : goal.invariant-loop-j

@@ -1,8 +1,6 @@
 -- `majority_sets::add_eights`: the counts, as bytes, are added.
 use Prim.Native.Nat.{◌*◌}
-use native.Mathlib.Omega.{arith}
 use Rattle.majority_sets.proofs.Bytes.{bytes-room, bytes-more}
-use borrow.Author.Rules.{rules}
 use Rattle.majority_sets.proofs.add_eights.Goals as goal
 
 pub add_bytes-requires : goal.add_bytes-requires

@@ -1,6 +1,5 @@
 -- `majority_sets::count_eights`: counted in planes, then brought to bytes.
 use Rattle.majority_sets.proofs.Bytes.{bytes_count}
-use borrow.Author.Rules.{rules}
 use Rattle.majority_sets.proofs.count_eights.Goals as goal
 
 pub returns : goal.returns

@@ -1,9 +1,7 @@
 -- `majority_sets::take`: one by one, or the first of them so and the others in eights.
-use Prim.Native.Nat.{◌+◌, ◌*◌, ◌/◌, ◌%◌, ◌≤◌}
 use native.Mathlib.Omega.{arith}
 use Rattle.matrix.specs.Paper.Shapes.{matrix_of}
 use Rattle.majority_sets.proofs.Shares.{sets-there, sets-six, first-parts, first-there, rest-there, both_fewer}
-use borrow.Author.Rules.{rules}
 use Rattle.majority_sets.proofs.take.Goals as goal
 
 pub take_rows-requires-2 : goal.take_rows-requires-2

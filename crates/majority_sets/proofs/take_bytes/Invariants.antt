@@ -1,12 +1,8 @@
 -- `majority_sets::take_bytes`. The loop's invariant: the first `j` bytes are taken.
-use mathlib.Core.Path.{◌≡◌, sym}
-use Prim.Native.Nat.{◌+◌, ◌-◌, ◌≤◌}
-use native.Mathlib.Nat.{le_antisymm}
-use native.Mathlib.Omega.{arith}
+use mathlib.Core.Path.{◌≡◌}
+use Prim.Native.Nat.{◌-◌, ◌≤◌}
 use Rattle.counting.specs.Paper.Lists.{listed, over}
 use Rattle.counting.specs.Places.{at}
-use Rattle.counting.proofs.Writes.{over_none, over-rest}
-use Rattle.majority_sets.proofs.Bytes.{take_step}
 use Rattle.majority_sets.proofs.take_bytes.Given as goal
 
 abbrev pub invariant-loop-j : goal.invariant-loop-j

@@ -1,8 +1,6 @@
 -- `majority_sets::take_eights`: the counts, as bytes, are taken.
 use Prim.Native.Nat.{◌*◌}
-use native.Mathlib.Omega.{arith}
 use Rattle.majority_sets.proofs.Bytes.{bytes-there, bytes-fewer}
-use borrow.Author.Rules.{rules}
 use Rattle.majority_sets.proofs.take_eights.Goals as goal
 
 pub take_bytes-requires : goal.take_bytes-requires

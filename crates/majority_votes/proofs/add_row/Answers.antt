@@ -1,7 +1,5 @@
-use Prim.Native.Nat.{◌-◌, ◌≤◌}
+use Prim.Native.Nat.{◌-◌}
 use native.Mathlib.Omega.{arith}
-use Rattle.counting.specs.Places.{among}
-use Rattle.majority_votes.specs.Tallies.{More}
 use Rattle.majority_votes.proofs.Sums.{among_none, part-within, some_next, some-step, some-rest}
 use Rattle.majority_votes.proofs.add_row.Goals as goal
 

@@ -1,9 +1,7 @@
 -- `majority_votes::add_row`. The loop's invariant: a vote more at each of the first `k` column numbers of the part.
 use Prim.Native.Nat.{◌-◌, ◌≤◌}
-use native.Mathlib.Omega.{arith}
 use Rattle.counting.specs.Places.{among}
 use Rattle.majority_votes.specs.Tallies.{More}
-use Rattle.majority_votes.proofs.Sums.{among_none, part-within, some_next, some-step, some-rest}
 use Rattle.majority_votes.proofs.add_row.Given as goal
 
 abbrev pub invariant-loop-k : goal.invariant-loop-k

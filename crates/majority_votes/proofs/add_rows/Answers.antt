@@ -1,7 +1,5 @@
-use Prim.Native.Nat.{◌-◌, ◌≤◌}
 use native.Mathlib.Nat.{le_antisymm}
 use native.Mathlib.Omega.{arith}
-use Rattle.majority_votes.specs.Tallies.{of_rows, More}
 use Rattle.majority_votes.proofs.Sums.{rows_none, rows_next, rows_step}
 use Rattle.majority_votes.proofs.add_rows.Goals as goal
 

@@ -1,9 +1,6 @@
 -- `majority_votes::add_rows`. The loop's invariant: the columns of the first `q` listed rows have their votes.
 use Prim.Native.Nat.{◌-◌, ◌≤◌}
-use native.Mathlib.Nat.{le_antisymm}
-use native.Mathlib.Omega.{arith}
 use Rattle.majority_votes.specs.Tallies.{of_rows, More}
-use Rattle.majority_votes.proofs.Sums.{rows_none, rows_next, rows_step}
 use Rattle.majority_votes.proofs.add_rows.Given as goal
 
 abbrev pub invariant-loop-q : goal.invariant-loop-q

@@ -1,8 +1,7 @@
-use Prim.Native.Nat.{ℕ, ◌+◌, ◌-◌, ◌≤◌}
+use Prim.Native.Nat.{ℕ, ◌+◌}
 use native.Mathlib.Nat.{le_antisymm}
 use native.Mathlib.Omega.{arith}
-use Rattle.counting.specs.Places.{at, among}
-use Rattle.majority_votes.specs.Tallies.{More}
+use Rattle.counting.specs.Places.{at}
 use Rattle.majority_votes.proofs.Sums.{among_none, among_next, among-step}
 use Rattle.majority_votes.proofs.add_some.Goals as goal
 

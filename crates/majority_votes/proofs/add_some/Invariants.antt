@@ -1,10 +1,7 @@
 -- `majority_votes::add_some`. The loop's invariant: a vote more at each of the first `k` column numbers of the part.
-use Prim.Native.Nat.{ℕ, ◌+◌, ◌-◌, ◌≤◌}
-use native.Mathlib.Nat.{le_antisymm}
-use native.Mathlib.Omega.{arith}
-use Rattle.counting.specs.Places.{at, among}
+use Prim.Native.Nat.{◌-◌, ◌≤◌}
+use Rattle.counting.specs.Places.{among}
 use Rattle.majority_votes.specs.Tallies.{More}
-use Rattle.majority_votes.proofs.Sums.{among_none, among_next, among-step}
 use Rattle.majority_votes.proofs.add_some.Given as goal
 
 abbrev pub invariant-loop-k : goal.invariant-loop-k

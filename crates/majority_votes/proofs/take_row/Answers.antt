@@ -1,7 +1,5 @@
-use Prim.Native.Nat.{◌-◌, ◌≤◌}
+use Prim.Native.Nat.{◌-◌}
 use native.Mathlib.Omega.{arith}
-use Rattle.counting.specs.Places.{among}
-use Rattle.majority_votes.specs.Tallies.{Fewer}
 use Rattle.majority_votes.proofs.Sums.{part-within}
 use Rattle.majority_votes.proofs.Takes.{among-left, some_left, some-taken, rest-taken}
 use Rattle.majority_votes.proofs.take_row.Goals as goal

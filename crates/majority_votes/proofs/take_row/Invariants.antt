@@ -1,10 +1,7 @@
 -- `majority_votes::take_row`. The loop's invariant: a vote less at each of the first `k` column numbers of the part.
 use Prim.Native.Nat.{◌-◌, ◌≤◌}
-use native.Mathlib.Omega.{arith}
 use Rattle.counting.specs.Places.{among}
 use Rattle.majority_votes.specs.Tallies.{Fewer}
-use Rattle.majority_votes.proofs.Sums.{part-within}
-use Rattle.majority_votes.proofs.Takes.{among-left, some_left, some-taken, rest-taken}
 use Rattle.majority_votes.proofs.take_row.Given as goal
 
 abbrev pub invariant-loop-k : goal.invariant-loop-k

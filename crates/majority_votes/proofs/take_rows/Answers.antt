@@ -1,7 +1,5 @@
-use Prim.Native.Nat.{◌-◌, ◌≤◌}
 use native.Mathlib.Nat.{le_antisymm}
 use native.Mathlib.Omega.{arith}
-use Rattle.majority_votes.specs.Tallies.{of_rows, Fewer}
 use Rattle.majority_votes.proofs.Takes.{rows_whole, rows_left, rows_taken}
 use Rattle.majority_votes.proofs.take_rows.Goals as goal
 

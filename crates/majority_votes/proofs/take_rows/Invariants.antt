@@ -1,9 +1,6 @@
 -- `majority_votes::take_rows`. The loop's invariant: the columns of the first `q` listed rows have their votes taken.
 use Prim.Native.Nat.{◌-◌, ◌≤◌}
-use native.Mathlib.Nat.{le_antisymm}
-use native.Mathlib.Omega.{arith}
 use Rattle.majority_votes.specs.Tallies.{of_rows, Fewer}
-use Rattle.majority_votes.proofs.Takes.{rows_whole, rows_left, rows_taken}
 use Rattle.majority_votes.proofs.take_rows.Given as goal
 
 abbrev pub invariant-loop-q : goal.invariant-loop-q

@@ -1,8 +1,5 @@
-use Prim.Native.Nat.{◌-◌, ◌≤◌}
 use native.Mathlib.Nat.{le_antisymm}
 use native.Mathlib.Omega.{arith}
-use Rattle.counting.specs.Places.{among}
-use Rattle.majority_votes.specs.Tallies.{Fewer}
 use Rattle.majority_votes.proofs.Takes.{among-left, among-last, among-taken}
 use Rattle.majority_votes.proofs.take_some.Goals as goal
 

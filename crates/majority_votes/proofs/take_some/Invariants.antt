@@ -1,10 +1,7 @@
 -- `majority_votes::take_some`. The loop's invariant: a vote less at each of the first `k` column numbers of the part.
 use Prim.Native.Nat.{◌-◌, ◌≤◌}
-use native.Mathlib.Nat.{le_antisymm}
-use native.Mathlib.Omega.{arith}
 use Rattle.counting.specs.Places.{among}
 use Rattle.majority_votes.specs.Tallies.{Fewer}
-use Rattle.majority_votes.proofs.Takes.{among-left, among-last, among-taken}
 use Rattle.majority_votes.proofs.take_some.Given as goal
 
 abbrev pub invariant-loop-k : goal.invariant-loop-k

@@ -1,5 +1,4 @@
 -- `majority_votes::tally`: the failing rows, added to a cleared array, are the votes.
-use borrow.Author.Rules.{rules}
 use Rattle.counting.specs.Places.{at}
 use Rattle.matrix.specs.Paper.Shapes.{matrix_of}
 use Rattle.majority_votes.proofs.Sums.{failing-parts, failing-room, tallied}

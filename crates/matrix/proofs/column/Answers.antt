@@ -2,7 +2,6 @@
 use mathlib.Core.Path.{refl}
 use Prim.Native.Nat.{◌+◌, ◌*◌}
 use native.Mathlib.Omega.{arith}
-use borrow.Author.Rules.{rules}
 use Rattle.matrix.specs.Paper.Code.{entry}
 use Rattle.matrix.proofs.Ordered.{few, in_list, column-in, column-below}
 use Rattle.matrix.proofs.column.Goals as goal

@@ -1,6 +1,5 @@
 -- `matrix_check::ask_overlap` meets its contract: each answer is the one that has the matrix's reading. Assumes nothing.
 use native.Mathlib.Omega.{arith}
-use borrow.Author.Rules.{rules}
 use Rattle.counting.proofs.Decisions.{found, missed}
 use Rattle.matrix.specs.Paper.Code.{Matrix}
 use Rattle.matrix.specs.Paper.PlainCheck.{rows_overlap, fine}

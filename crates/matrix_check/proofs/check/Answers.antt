@@ -11,7 +11,6 @@ use Rattle.matrix.specs.Paper.PlainCheck.{Sizes, sizes_out, length_wrong}
 use Rattle.matrix.specs.Paper.Shapes.{matrix_of}
 use Rattle.matrix.proofs.Rows.{few-entries}
 use Rattle.matrix.proofs.PlainCheck.{sizes-say, sizes-fit, reads_only}
-use borrow.Author.Rules.{rules}
 use Rattle.matrix_check.proofs.check.Goals as goal
 
 pub returns-then-not-sizes_fit : goal.returns-then-not-sizes_fit

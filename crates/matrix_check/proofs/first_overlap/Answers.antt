@@ -5,7 +5,6 @@ use Rattle.counting.proofs.Searches.{never, cases}
 use Rattle.matrix.specs.Paper.Shapes.{matrix_of}
 use Rattle.matrix_meeting.specs.Overlaps.{has_overlap}
 use Rattle.matrix_meeting.proofs.Overlaps.{overlap-some, overlap-none}
-use borrow.Author.Rules.{rules}
 use Rattle.matrix_check.proofs.first_overlap.Goals as goal
 
 pub exact_overlap-requires : goal.exact_overlap-requires

@@ -13,7 +13,6 @@ use Rattle.matrix.specs.Paper.PlainCheck.{Sizes}
 use Rattle.matrix.specs.Paper.Shapes.{matrix_of}
 use Rattle.matrix.proofs.Rows.{few-entries}
 use Rattle.matrix.proofs.PlainCheck.{sizes-say, sizes-fit}
-use borrow.Author.Rules.{rules}
 use Rattle.matrix_check.proofs.fits.Goals as goal
 
 pub returns-then-not-sizes_fit : goal.returns-then-not-sizes_fit

@@ -3,7 +3,6 @@ use mathlib.Core.Bool.{and_assoc}
 use native.Mathlib.Nat.{mul-le-mul}
 use native.Mathlib.Omega.{arith}
 use Rattle.matrix.specs.Paper.Check.{sizes_fit}
-use borrow.Author.Rules.{rules}
 use Rattle.matrix_check.proofs.sizes_fit.Goals as goal
 
 pub overflow_mul-ones_by_row : goal.overflow_mul-ones_by_row

@@ -1,4 +1,3 @@
-use Prim.Native.Nat.{◌-◌, ◌≤◌}
 use mathlib.Core.Path.{◌≡◌}
 use native.Mathlib.Nat.{le_antisymm}
 use native.Mathlib.Omega.{arith}
@@ -7,7 +6,7 @@ use Rattle.counting.specs.Paper.Lists.{listed, over}
 use Rattle.matrix.specs.Paper.Code.{Matrix}
 use Rattle.matrix.specs.Paper.Shapes.{matrix_of}
 use Rattle.matrix_columns.specs.Columns.{columns_size}
-use Rattle.matrix_columns.specs.Filling.{blank, rows_put}
+use Rattle.matrix_columns.specs.Filling.{blank}
 use Rattle.matrix_columns.proofs.Filling.{room-is, cleared-is, puts_none, puts-next, puts-room, puts-fit, rows-done}
 use Rattle.matrix_columns.proofs.build.Goals as goal
 

@@ -1,15 +1,8 @@
 -- `matrix_columns::build`. The loop's invariant: the rows before row `i` are added to the cleared cells. Assumes nothing.
 use Prim.Native.Nat.{◌-◌, ◌≤◌}
 use mathlib.Core.Path.{◌≡◌}
-use native.Mathlib.Nat.{le_antisymm}
-use native.Mathlib.Omega.{arith}
-use lib.ListN.{length}
-use Rattle.counting.specs.Paper.Lists.{listed, over}
-use Rattle.matrix.specs.Paper.Code.{Matrix}
 use Rattle.matrix.specs.Paper.Shapes.{matrix_of}
-use Rattle.matrix_columns.specs.Columns.{columns_size}
-use Rattle.matrix_columns.specs.Filling.{blank, rows_put}
-use Rattle.matrix_columns.proofs.Filling.{room-is, cleared-is, puts_none, puts-next, puts-room, puts-fit, rows-done}
+use Rattle.matrix_columns.specs.Filling.{rows_put}
 use Rattle.matrix_columns.proofs.build.Given as goal
 
 abbrev pub invariant-loop-i : goal.invariant-loop-i

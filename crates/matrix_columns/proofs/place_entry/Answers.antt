@@ -7,7 +7,6 @@ use lib.Seq.{get_or-set_other}
 use Rattle.counting.specs.Places.{at}
 use Rattle.counting.proofs.Bits.{one_bit}
 use Rattle.matrix_columns.proofs.Filling.{entry-put}
-use borrow.Author.Rules.{rules}
 use Rattle.matrix_columns.proofs.place_entry.Goals as goal
 
 pub bounds-columns-n : goal.bounds-columns-n

@@ -1,14 +1,8 @@
 -- `matrix_columns::place_row`. The loop's invariant: the row is added at its first `k` entries. Assumes nothing.
 use Prim.Native.Nat.{◌-◌, ◌≤◌}
-use mathlib.Core.Path.{◌≡◌, ap, ◌∙◌}
-use native.Mathlib.Nat.{le_antisymm}
-use native.Mathlib.Omega.{arith}
-use lib.ListN.{length}
-use Rattle.matrix.specs.Paper.Code.{Matrix}
+use mathlib.Core.Path.{◌≡◌}
 use Rattle.matrix.specs.Paper.Shapes.{matrix_of}
-use Rattle.matrix.proofs.Ordered.{accepted-ordered}
 use Rattle.matrix_columns.specs.Filling.{row_put}
-use Rattle.matrix_columns.proofs.Filling.{put-none, put_next, put-long, room-is, word_fits, weight-fits}
 use Rattle.matrix_columns.proofs.place_row.Given as goal
 
 abbrev pub invariant-loop-k : goal.invariant-loop-k

@@ -1,11 +1,8 @@
 -- `matrix_columns::weigh`. The loop's invariant: the first `j` weights are written over the old cells. Assumes nothing.
-use Prim.Native.Nat.{ℕ, ◌+◌, ◌-◌, ◌*◌, ◌≤◌}
-use mathlib.Core.Path.{◌≡◌, refl, sym}
-use native.Mathlib.Nat.{le_antisymm}
-use native.Mathlib.Omega.{arith}
+use Prim.Native.Nat.{◌+◌, ◌-◌, ◌*◌, ◌≤◌}
+use mathlib.Core.Path.{◌≡◌}
 use Rattle.counting.specs.Paper.Lists.{listed, over}
 use Rattle.counting.specs.Places.{at}
-use Rattle.counting.proofs.Writes.{over_none, over-step}
 use Rattle.matrix_columns.proofs.weigh.Given as goal
 
 abbrev pub invariant-loop-j : goal.invariant-loop-j

@@ -1,9 +1,6 @@
-use Prim.Native.Nat.{◌-◌, ◌≤◌}
 use native.Mathlib.Nat.{le_antisymm}
 use native.Mathlib.Omega.{arith}
-use lib.ListN.{length}
 use Rattle.counting.specs.Places.{at}
-use Rattle.matrix_degrees.specs.Degrees.{Counted}
 use Rattle.matrix_degrees.proofs.Degrees.{came-le, counted_none, counted_next}
 use Rattle.matrix_degrees.proofs.count_all.Goals as goal
 

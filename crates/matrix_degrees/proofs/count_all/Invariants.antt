@@ -1,11 +1,7 @@
 -- `matrix_degrees::count_all`. The loop's invariant: the first `p` entries are counted.
 use Prim.Native.Nat.{◌-◌, ◌≤◌}
-use native.Mathlib.Nat.{le_antisymm}
-use native.Mathlib.Omega.{arith}
 use lib.ListN.{length}
-use Rattle.counting.specs.Places.{at}
 use Rattle.matrix_degrees.specs.Degrees.{Counted}
-use Rattle.matrix_degrees.proofs.Degrees.{came-le, counted_none, counted_next}
 use Rattle.matrix_degrees.proofs.count_all.Given as goal
 
 abbrev pub invariant-loop-p : goal.invariant-loop-p

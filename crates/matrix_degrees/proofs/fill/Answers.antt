@@ -1,8 +1,6 @@
-use Prim.Native.Nat.{◌-◌, ◌≤◌}
-use mathlib.Core.Path.{◌≡◌, sym}
+use mathlib.Core.Path.{sym}
 use native.Mathlib.Nat.{le_antisymm}
 use native.Mathlib.Omega.{arith}
-use Rattle.counting.specs.Paper.Lists.{listed, over}
 use Rattle.counting.proofs.Writes.{over_none, over-long, over-step}
 use Rattle.matrix_degrees.specs.Degrees.{always}
 use Rattle.matrix_degrees.proofs.Degrees.{always-is}

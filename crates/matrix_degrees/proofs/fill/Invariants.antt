@@ -1,12 +1,8 @@
 -- `matrix_degrees::fill`. The loop's invariant: the first `j` cells are written over the old ones.
 use Prim.Native.Nat.{◌-◌, ◌≤◌}
-use mathlib.Core.Path.{◌≡◌, sym}
-use native.Mathlib.Nat.{le_antisymm}
-use native.Mathlib.Omega.{arith}
+use mathlib.Core.Path.{◌≡◌}
 use Rattle.counting.specs.Paper.Lists.{listed, over}
-use Rattle.counting.proofs.Writes.{over_none, over-long, over-step}
 use Rattle.matrix_degrees.specs.Degrees.{always}
-use Rattle.matrix_degrees.proofs.Degrees.{always-is}
 use Rattle.matrix_degrees.proofs.fill.Given as goal
 
 abbrev pub invariant-loop-j : goal.invariant-loop-j

@@ -1,13 +1,8 @@
 -- `matrix_degrees::put_gaps`. The loop's invariant: the first `j` gaps are written over the old cells.
-use Prim.Native.Nat.{◌+◌, ◌-◌, ◌≤◌}
-use mathlib.Core.Path.{◌≡◌, sym}
-use native.Mathlib.Nat.{le_antisymm}
-use native.Mathlib.Omega.{arith}
+use Prim.Native.Nat.{◌-◌, ◌≤◌}
+use mathlib.Core.Path.{◌≡◌}
 use Rattle.counting.specs.Paper.Lists.{listed, over}
-use Rattle.counting.proofs.Writes.{over_none, over-long, over-step}
-use Rattle.counting.specs.Places.{at}
 use Rattle.matrix_degrees.specs.Degrees.{gap}
-use Rattle.matrix_degrees.proofs.Degrees.{gap_is}
 use Rattle.matrix_degrees.proofs.put_gaps.Given as goal
 
 abbrev pub invariant-loop-j : goal.invariant-loop-j

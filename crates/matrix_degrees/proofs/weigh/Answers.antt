@@ -1,5 +1,4 @@
 -- `matrix_degrees::weigh`: gamma filled in where nothing else fits the sizes, else the list counted.
-use borrow.Author.Rules.{rules}
 use native.Mathlib.Omega.{arith}
 use Rattle.matrix.specs.Paper.Code.{Matrix}
 use Rattle.matrix.specs.Paper.Shapes.{matrix_of}

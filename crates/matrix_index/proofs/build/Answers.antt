@@ -1,4 +1,3 @@
-use Prim.Native.Nat.{◌-◌, ◌≤◌}
 use mathlib.Core.Path.{◌≡◌, refl, sym}
 use native.Mathlib.Nat.{le_antisymm}
 use native.Mathlib.Omega.{arith}
@@ -7,7 +6,6 @@ use Rattle.matrix.specs.Paper.Code.{Matrix}
 use Rattle.matrix.specs.Paper.Shapes.{matrix_of}
 use Rattle.matrix.proofs.Ordered.{accepted-ordered}
 use Rattle.matrix_index.specs.Paper.Index.{column_start}
-use Rattle.matrix_index.specs.Filling.{Cursors, rows_put}
 use Rattle.matrix_index.proofs.Cursors.{cursors-none}
 use Rattle.matrix_index.proofs.Filling.{puts_none, puts-next, puts-room, rows-done, size-past}
 use Rattle.matrix_index.proofs.build.Goals as goal

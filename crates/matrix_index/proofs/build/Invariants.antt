@@ -1,16 +1,9 @@
 -- `matrix_index::build`. The loop's invariant: the rows before row i are written over the starting places, and the cursors stand behind them.
 use Prim.Native.Nat.{◌-◌, ◌≤◌}
-use mathlib.Core.Path.{◌≡◌, refl, sym}
-use native.Mathlib.Nat.{le_antisymm}
-use native.Mathlib.Omega.{arith}
-use lib.ListN.{length}
-use Rattle.matrix.specs.Paper.Code.{Matrix}
+use mathlib.Core.Path.{◌≡◌}
 use Rattle.matrix.specs.Paper.Shapes.{matrix_of}
-use Rattle.matrix.proofs.Ordered.{accepted-ordered}
 use Rattle.matrix_index.specs.Paper.Index.{column_start}
 use Rattle.matrix_index.specs.Filling.{Cursors, rows_put}
-use Rattle.matrix_index.proofs.Cursors.{cursors-none}
-use Rattle.matrix_index.proofs.Filling.{puts_none, puts-next, puts-room, rows-done, size-past}
 use Rattle.matrix_index.proofs.build.Given as goal
 
 abbrev pub invariant-loop-i : goal.invariant-loop-i

@@ -1,12 +1,8 @@
 -- `matrix_index::copy_front`. The loop's invariant: the first `j` numbers are written over the old cells.
 use Prim.Native.Nat.{◌-◌, ◌≤◌}
-use mathlib.Core.Path.{◌≡◌, refl, sym}
-use native.Mathlib.Nat.{le_antisymm}
-use native.Mathlib.Omega.{arith}
-use borrow.Author.Rules.{rules}
+use mathlib.Core.Path.{◌≡◌}
 use Rattle.counting.specs.Paper.Lists.{listed, over}
 use Rattle.counting.specs.Places.{at}
-use Rattle.counting.proofs.Writes.{over_none, over-long, over-step}
 use Rattle.matrix_index.proofs.copy_front.Given as goal
 
 abbrev pub invariant-loop-j : goal.invariant-loop-j

@@ -1,4 +1,4 @@
-use Prim.Native.Nat.{◌+◌, ◌*◌, ◌-◌, ◌≤◌, ◌<◌}
+use Prim.Native.Nat.{◌+◌, ◌*◌, ◌<◌}
 use mathlib.Core.Path.{◌≡◌, sym, ap, ◌∙◌}
 use native.Mathlib.Nat.{le_antisymm}
 use native.Mathlib.Omega.{arith}
@@ -9,7 +9,6 @@ use Rattle.matrix.specs.Paper.Shapes.{matrix_of}
 use Rattle.matrix.specs.Ordered.{Ordered}
 use Rattle.matrix.proofs.Ordered.{accepted-ordered}
 use Rattle.matrix_index.specs.Paper.Index.{column_start}
-use Rattle.matrix_index.specs.Filling.{Passed, row_put}
 use Rattle.matrix_index.proofs.Cursors.{Spot, spot_of, spot-place, spot-inside, spot-low, reached, passed_none, passed-step, passed-row}
 use Rattle.matrix_index.proofs.Filling.{put_next, put-long, put-none}
 use Rattle.matrix_index.proofs.place_row.Goals as goal

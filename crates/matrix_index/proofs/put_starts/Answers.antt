@@ -1,9 +1,7 @@
-use Prim.Native.Nat.{◌-◌, ◌≤◌}
 use mathlib.Core.Path.{◌≡◌, sym, ◌∙◌}
 use native.Mathlib.Nat.{le_antisymm}
 use native.Mathlib.Omega.{arith}
 use lib.ListN.{length, length-set}
-use Rattle.counting.specs.Paper.Lists.{listed, over}
 use Rattle.counting.proofs.Writes.{over_none, over-long, over-step}
 use Rattle.matrix_index.specs.Filling.{start_sum}
 use Rattle.matrix_index.proofs.Starts.{sum_first, sum_more, sum_fits}

@@ -1,13 +1,8 @@
 -- `matrix_index::put_starts`. The loop's invariant: the first `j` starting places are written over the old cells, and `sum` is the next.
 use Prim.Native.Nat.{◌-◌, ◌≤◌}
-use mathlib.Core.Path.{◌≡◌, sym, ◌∙◌}
-use native.Mathlib.Nat.{le_antisymm}
-use native.Mathlib.Omega.{arith}
-use lib.ListN.{length, length-set}
+use mathlib.Core.Path.{◌≡◌}
 use Rattle.counting.specs.Paper.Lists.{listed, over}
-use Rattle.counting.proofs.Writes.{over_none, over-long, over-step}
 use Rattle.matrix_index.specs.Filling.{start_sum}
-use Rattle.matrix_index.proofs.Starts.{sum_first, sum_more, sum_fits}
 use Rattle.matrix_index.proofs.put_starts.Given as goal
 
 abbrev pub invariant-loop-j : goal.invariant-loop-j

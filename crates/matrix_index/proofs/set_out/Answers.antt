@@ -3,7 +3,6 @@ use Rattle.matrix.specs.Paper.Code.{Matrix}
 use Rattle.matrix.specs.Paper.Shapes.{matrix_of}
 use Rattle.matrix_degrees.proofs.Degrees.{weighed}
 use Rattle.matrix_index.proofs.Starts.{sum-small, starts-put, starts-copied}
-use borrow.Author.Rules.{rules}
 use Rattle.matrix_index.proofs.set_out.Goals as goal
 
 pub put_starts-requires : goal.put_starts-requires

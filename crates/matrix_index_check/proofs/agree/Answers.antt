@@ -14,7 +14,6 @@ use Rattle.matrix_index_check.proofs.Answers.{out_of_order}
 use Rattle.matrix_weights.proofs.Weights.{counted-fit, fit-counted}
 use Rattle.matrix_index_check.specs.Agree.{gaps_in}
 use Rattle.matrix_index_check.proofs.Passing.{own-rise, own-weighed}
-use borrow.Author.Rules.{rules}
 use Rattle.matrix_index_check.proofs.agree.Goals as goal
 
 pub returns-then-not-fits : goal.returns-then-not-fits

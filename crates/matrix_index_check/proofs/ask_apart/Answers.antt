@@ -5,7 +5,6 @@ use Rattle.matrix.specs.Paper.Code.{Matrix}
 use Rattle.matrix.specs.Paper.Shapes.{matrix_of}
 use Rattle.matrix.proofs.PlainCheck.{accepted-is}
 use Rattle.matrix_index_check.proofs.Answers.{matrix-refused, matrix-accepted}
-use borrow.Author.Rules.{rules}
 use Rattle.matrix_index_check.proofs.ask_apart.Goals as goal
 
 pub ask_own-requires : goal.ask_own-requires

@@ -2,7 +2,6 @@
 use Rattle.matrix.specs.Paper.Shapes.{matrix_of}
 use Rattle.matrix.proofs.Ordered.{accepted-ordered}
 use Rattle.matrix_index_check.proofs.Answers.{own-test, own-verdict}
-use borrow.Author.Rules.{rules}
 use Rattle.matrix_index_check.proofs.ask_own.Goals as goal
 
 pub replay-own-requires : goal.replay-own-requires

@@ -2,7 +2,6 @@
 use Rattle.matrix.specs.Paper.Code.{Matrix}
 use Rattle.matrix.specs.Paper.Shapes.{matrix_of}
 use Rattle.matrix_index_check.proofs.Answers.{agreed}
-use borrow.Author.Rules.{rules}
 use Rattle.matrix_index_check.proofs.check_indexed.Goals as goal
 
 pub ask_overlap-requires : goal.ask_overlap-requires

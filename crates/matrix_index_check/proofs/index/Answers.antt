@@ -4,7 +4,6 @@ use Rattle.answers.specs.Paper.Enums.{verdict_of, refusal_number, refusal_place}
 use Rattle.matrix.specs.Paper.Shapes.{matrix_of}
 use Rattle.matrix.proofs.PlainCheck.{accepted-is}
 use Rattle.matrix_index_check.proofs.Answers.{refused-matrix}
-use borrow.Author.Rules.{rules}
 use Rattle.matrix_index_check.proofs.index.Goals as goal
 
 pub on_accepted-requires : goal.on_accepted-requires

@@ -4,7 +4,6 @@ use Rattle.matrix.specs.Paper.Code.{Matrix}
 use Rattle.matrix.specs.Paper.Shapes.{matrix_of}
 use Rattle.matrix_index.proofs.Filling.{size_is}
 use Rattle.matrix_index_check.proofs.Answers.{refused-short, built}
-use borrow.Author.Rules.{rules}
 use Rattle.matrix_index_check.proofs.on_accepted.Goals as goal
 
 pub returns-then-index-size : goal.returns-then-index-size

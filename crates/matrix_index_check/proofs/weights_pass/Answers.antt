@@ -3,7 +3,6 @@ use mathlib.Core.Path.{ap, ◌∙◌}
 use mathlib.Core.List.{List}
 use Prim.Native.Nat.{ℕ}
 use Rattle.matrix_weights.specs.Weights.{weights_fit}
-use borrow.Author.Rules.{rules}
 use Rattle.matrix_index_check.proofs.weights_pass.Goals as goal
 
 pub returns : goal.returns

@@ -1,5 +1,4 @@
 -- `matrix_index_replay::differs`: the comparison as a number.
-use borrow.Author.Rules.{rules}
 use mathlib.Core.Bool.{not}
 use lib.Dec.{eqb}
 use Rattle.counting.specs.Paper.Sum.{unequal}

@@ -1,10 +1,8 @@
-use Prim.Native.Nat.{◌+◌, ◌-◌, ◌≤◌}
-use mathlib.Core.Path.{◌≡◌}
+use Prim.Native.Nat.{◌+◌}
 use native.Mathlib.Nat.{le_antisymm}
 use native.Mathlib.Omega.{arith}
 use Rattle.counting.specs.Places.{at}
 use Rattle.counting.proofs.Sums.{differ-le}
-use Rattle.matrix_index_replay.specs.Replay.{wrong_ends}
 use Rattle.matrix_index_replay.proofs.Numbers.{ends-none, ends-step, ends-most}
 use Rattle.matrix_index_replay.proofs.ends_wrong.Goals as goal
 

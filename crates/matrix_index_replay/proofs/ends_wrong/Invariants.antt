@@ -1,12 +1,7 @@
 -- `matrix_index_replay::ends_wrong`. The loop's invariant: `wrong` is how many of the first `j` are wrong.
-use Prim.Native.Nat.{◌+◌, ◌-◌, ◌≤◌}
+use Prim.Native.Nat.{◌-◌, ◌≤◌}
 use mathlib.Core.Path.{◌≡◌}
-use native.Mathlib.Nat.{le_antisymm}
-use native.Mathlib.Omega.{arith}
-use Rattle.counting.specs.Places.{at}
-use Rattle.counting.proofs.Sums.{differ-le}
 use Rattle.matrix_index_replay.specs.Replay.{wrong_ends}
-use Rattle.matrix_index_replay.proofs.Numbers.{ends-none, ends-step, ends-most}
 use Rattle.matrix_index_replay.proofs.ends_wrong.Given as goal
 
 abbrev pub invariant-loop-j : goal.invariant-loop-j

@@ -1,5 +1,4 @@
 -- `matrix_index_replay::number_is`: a place past the end has no number.
-use borrow.Author.Rules.{rules}
 use borrow.Author.Tests.{le-ltb, lt-ltb}
 use Rattle.matrix_index_replay.proofs.number_is.Goals as goal
 

@@ -5,7 +5,6 @@ use Rattle.counting.proofs.Searches.{never}
 use Rattle.matrix.specs.Paper.Code.{Matrix}
 use Rattle.matrix.specs.Paper.Shapes.{matrix_of}
 use Rattle.matrix_index.proofs.Filling.{size_is}
-use borrow.Author.Rules.{rules}
 use Rattle.matrix_index_replay.proofs.replay.Goals as goal
 
 pub returns-then-index-size : goal.returns-then-index-size

@@ -6,7 +6,6 @@ use Rattle.matrix.specs.Paper.Code.{Matrix, matrix}
 use Rattle.matrix.specs.Ordered.{Ordered}
 use Rattle.matrix_index.specs.Filling.{Cursors}
 use Rattle.matrix_index_replay.specs.Replay.{RowReplayed}
-use borrow.Author.Rules.{rules}
 use Rattle.matrix_index_replay.proofs.row_laid_out.Goals as goal
 
 pub row_stands-requires : goal.row_stands-requires

@@ -1,6 +1,6 @@
 use mathlib.Core.Bool.{not}
 use mathlib.Core.Path.{ap}
-use Prim.Native.Nat.{ℕ, ◌+◌, ◌*◌, ◌-◌, ◌≤◌, ◌<◌}
+use Prim.Native.Nat.{◌+◌, ◌*◌, ◌<◌}
 use mathlib.Core.Path.{sym, ◌∙◌}
 use native.Mathlib.Nat.{le_antisymm}
 use native.Mathlib.Omega.{arith}
@@ -8,7 +8,6 @@ use borrow.Author.Tests.{not-true, not-false}
 use Rattle.counting.specs.Places.{at}
 use Rattle.counting.proofs.Searches.{never}
 use Rattle.matrix.specs.Paper.Code.{Matrix, matrix}
-use Rattle.matrix_index.specs.Filling.{Passed}
 use Rattle.matrix_index.proofs.Cursors.{Spot, spot_of, reached, passed_none, passed-step}
 use Rattle.matrix_index_replay.specs.Replay.{Stands}
 use Rattle.matrix_index_replay.proofs.Numbers.{row-standing, row-missing, cursor-low, entry_more}

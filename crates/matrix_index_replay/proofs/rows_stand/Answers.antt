@@ -1,6 +1,6 @@
 use mathlib.Core.Bool.{not}
 use mathlib.Core.Path.{ap}
-use Prim.Native.Nat.{ℕ, ◌-◌, ◌≤◌, ◌<◌}
+use Prim.Native.Nat.{◌≤◌, ◌<◌}
 use mathlib.Core.Path.{◌≡◌, refl, sym}
 use mathlib.Core.Bool.{true}
 use native.Mathlib.Nat.{le_antisymm}
@@ -11,9 +11,7 @@ use Rattle.counting.specs.Places.{at}
 use Rattle.counting.proofs.Searches.{never}
 use Rattle.matrix.specs.Paper.Code.{Matrix}
 use Rattle.matrix.specs.Paper.Shapes.{matrix_of}
-use Rattle.matrix_index.specs.Filling.{Cursors}
 use Rattle.matrix_index.proofs.Cursors.{cursors-none}
-use Rattle.matrix_index_replay.specs.Replay.{RowStands}
 use Rattle.matrix_index_replay.proofs.Numbers.{row-all, row-behind, row-not, rows_more, rows-ended, size_room}
 use Rattle.matrix_index_replay.proofs.rows_stand.Goals as goal
 

@@ -1,21 +1,9 @@
 -- `matrix_index_replay::rows_stand`. The loop's invariant: the rows before row `i` stand at their places, and the cursors stand behind them.
-use mathlib.Core.Bool.{not}
-use mathlib.Core.Path.{ap}
 use Prim.Native.Nat.{ℕ, ◌-◌, ◌≤◌, ◌<◌}
-use mathlib.Core.Path.{◌≡◌, refl, sym}
-use mathlib.Core.Bool.{true}
-use native.Mathlib.Nat.{le_antisymm}
-use native.Mathlib.Omega.{arith}
-use borrow.Author.Tests.{not-true, not-false}
-use lib.ListN.{length}
 use Rattle.counting.specs.Places.{at}
-use Rattle.counting.proofs.Searches.{never}
-use Rattle.matrix.specs.Paper.Code.{Matrix}
 use Rattle.matrix.specs.Paper.Shapes.{matrix_of}
 use Rattle.matrix_index.specs.Filling.{Cursors}
-use Rattle.matrix_index.proofs.Cursors.{cursors-none}
 use Rattle.matrix_index_replay.specs.Replay.{RowStands}
-use Rattle.matrix_index_replay.proofs.Numbers.{row-all, row-behind, row-not, rows_more, rows-ended, size_room}
 use Rattle.matrix_index_replay.proofs.rows_stand.Given as goal
 
 abbrev pub invariant-loop-i : goal.invariant-loop-i

@@ -1,10 +1,10 @@
 use mathlib.Core.Path.{◌≡◌, ap}
-use Prim.Native.Nat.{ℕ, ◌+◌, ◌*◌, ◌-◌, ◌≤◌}
+use Prim.Native.Nat.{ℕ, ◌+◌, ◌*◌}
 use native.Mathlib.Omega.{arith}
 use lib.ListN.{get_or}
 use Rattle.matrix.specs.Paper.Code.{entry}
 use Rattle.matrix.specs.Paper.Shapes.{matrix_of}
-use Rattle.matrix_meeting.proofs.Gone.{Gone, word_at, gone-none, gone-more, met-says}
+use Rattle.matrix_meeting.proofs.Gone.{word_at, gone-none, gone-more, met-says}
 use Rattle.matrix_meeting.proofs.met_twice.Goals as goal
 
 pub loop-k-init : goal.loop-k-init

@@ -1,11 +1,7 @@
 -- `matrix_meeting::met_twice` meets its contract. The loop's invariant: of the columns passed, each of the four words is met. Assumes nothing.
-use mathlib.Core.Path.{◌≡◌, ap}
-use Prim.Native.Nat.{ℕ, ◌+◌, ◌*◌, ◌-◌, ◌≤◌}
-use native.Mathlib.Omega.{arith}
-use lib.ListN.{get_or}
-use Rattle.matrix.specs.Paper.Code.{entry}
+use Prim.Native.Nat.{◌-◌, ◌≤◌}
 use Rattle.matrix.specs.Paper.Shapes.{matrix_of}
-use Rattle.matrix_meeting.proofs.Gone.{Gone, word_at, gone-none, gone-more, met-says}
+use Rattle.matrix_meeting.proofs.Gone.{Gone, word_at}
 use Rattle.matrix_meeting.proofs.met_twice.Given as goal
 
 abbrev pub invariant-loop-k : goal.invariant-loop-k

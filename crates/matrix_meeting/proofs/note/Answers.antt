@@ -3,7 +3,6 @@ use Prim.Native.Nat.{◌%◌}
 use native.Mathlib.Omega.{arith}
 use Rattle.matrix_meeting.specs.Marks.{bit_for}
 use Rattle.matrix_meeting.proofs.Words.{marked-is, shifted}
-use borrow.Author.Rules.{rules}
 use Rattle.matrix_meeting.proofs.note.Goals as goal
 
 pub returns : goal.returns

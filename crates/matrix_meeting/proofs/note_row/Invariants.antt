@@ -1,12 +1,9 @@
 -- `matrix_meeting::note_row` meets its contract. The loop's invariant: the bits for the columns passed are set, and no others. Assumes nothing.
-use mathlib.Core.Path.{◌≡◌, refl, sym, ap, ◌∙◌}
-use Prim.Native.Nat.{ℕ, ◌-◌, ◌≤◌}
-use native.Mathlib.Omega.{arith}
+use mathlib.Core.Path.{◌≡◌}
+use Prim.Native.Nat.{◌-◌, ◌≤◌}
 use lib.ListN.{length}
 use Rattle.matrix.specs.Paper.Shapes.{matrix_of}
-use Rattle.matrix_meeting.specs.Marks.{bit_for, row_marked}
-use Rattle.matrix_meeting.proofs.Words.{long-marked}
-use Rattle.matrix_meeting.proofs.Marks.{row_more, noted_in, noted-out}
+use Rattle.matrix_meeting.specs.Marks.{row_marked}
 use Rattle.matrix_meeting.proofs.note_row.Given as goal
 
 abbrev pub invariant-loop-k : goal.invariant-loop-k

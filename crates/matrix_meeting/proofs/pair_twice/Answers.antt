@@ -1,10 +1,7 @@
-use mathlib.Core.Path.{◌≡◌, sym, ◌∙◌}
-use mathlib.Core.Bool.{false}
-use Prim.Native.Nat.{ℕ, ◌-◌, ◌≤◌, ◌<◌}
+use mathlib.Core.Path.{sym, ◌∙◌}
 use native.Mathlib.Omega.{arith}
 use borrow.Author.Count.{below_more}
 use Rattle.matrix.specs.Paper.Shapes.{matrix_of}
-use Rattle.matrix_meeting.specs.Overlaps.{part_overlaps}
 use Rattle.matrix_meeting.proofs.Overlaps.{part-some, parts_none}
 use Rattle.matrix_meeting.proofs.pair_twice.Goals as goal
 

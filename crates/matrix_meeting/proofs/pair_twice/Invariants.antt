@@ -1,13 +1,10 @@
 -- `matrix_meeting::pair_twice` meets its contract.
 -- The loop's invariant: no row of the parts passed has two columns in common with a later row. Assumes nothing.
-use mathlib.Core.Path.{◌≡◌, sym, ◌∙◌}
+use mathlib.Core.Path.{◌≡◌}
 use mathlib.Core.Bool.{false}
 use Prim.Native.Nat.{ℕ, ◌-◌, ◌≤◌, ◌<◌}
-use native.Mathlib.Omega.{arith}
-use borrow.Author.Count.{below_more}
 use Rattle.matrix.specs.Paper.Shapes.{matrix_of}
 use Rattle.matrix_meeting.specs.Overlaps.{part_overlaps}
-use Rattle.matrix_meeting.proofs.Overlaps.{part-some, parts_none}
 use Rattle.matrix_meeting.proofs.pair_twice.Given as goal
 
 abbrev pub invariant-loop-part : goal.invariant-loop-part

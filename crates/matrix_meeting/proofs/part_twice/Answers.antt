@@ -2,7 +2,6 @@
 use Prim.Native.Nat.{ℕ}
 use native.Mathlib.Omega.{arith}
 use lib.ListN.{length-replicate}
-use borrow.Author.Rules.{rules}
 use Rattle.matrix_meeting.proofs.Words.{unmarked-zeros}
 use Rattle.matrix_meeting.proofs.part_twice.Goals as goal
 

@@ -1,12 +1,10 @@
 use mathlib.Core.Path.{◌≡◌, refl, sym, ◌∙◌}
 use mathlib.Core.Bool.{true, false}
-use Prim.Native.Nat.{ℕ, ◌*◌, ◌-◌, ◌≤◌, ◌<◌}
+use Prim.Native.Nat.{ℕ, ◌*◌}
 use native.Mathlib.Omega.{arith}
 use borrow.Author.Count.{below_more}
-use lib.ListN.{length}
 use Rattle.counting.proofs.Searches.{cases, never}
 use Rattle.matrix.specs.Paper.Shapes.{matrix_of}
-use Rattle.matrix_meeting.specs.Marks.{MarksOf}
 use Rattle.matrix_meeting.specs.Overlaps.{meets_part}
 use Rattle.matrix_meeting.proofs.Marks.{bit-room, long-noted, marks-none, marks-more, once-clear, clear-once}
 use Rattle.matrix_meeting.proofs.Overlaps.{meets-none, seen-some, seen_none}

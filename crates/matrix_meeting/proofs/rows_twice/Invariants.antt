@@ -1,17 +1,12 @@
 -- `matrix_meeting::rows_twice` meets its contract. The loop's invariant: the bits set are those for the part's rows passed, and no row
 -- passed has two columns in common with an earlier row of the part. Assumes nothing.
-use mathlib.Core.Path.{◌≡◌, refl, sym, ◌∙◌}
-use mathlib.Core.Bool.{true, false}
-use Prim.Native.Nat.{ℕ, ◌*◌, ◌-◌, ◌≤◌, ◌<◌}
-use native.Mathlib.Omega.{arith}
-use borrow.Author.Count.{below_more}
+use mathlib.Core.Path.{◌≡◌}
+use mathlib.Core.Bool.{false}
+use Prim.Native.Nat.{ℕ, ◌-◌, ◌≤◌, ◌<◌}
 use lib.ListN.{length}
-use Rattle.counting.proofs.Searches.{cases, never}
 use Rattle.matrix.specs.Paper.Shapes.{matrix_of}
 use Rattle.matrix_meeting.specs.Marks.{MarksOf}
 use Rattle.matrix_meeting.specs.Overlaps.{meets_part}
-use Rattle.matrix_meeting.proofs.Marks.{bit-room, long-noted, marks-none, marks-more, once-clear, clear-once}
-use Rattle.matrix_meeting.proofs.Overlaps.{meets-none, seen-some, seen_none}
 use Rattle.matrix_meeting.proofs.rows_twice.Given as goal
 
 abbrev pub invariant-loop-i : goal.invariant-loop-i

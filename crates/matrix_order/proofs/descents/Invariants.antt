@@ -1,12 +1,9 @@
 -- `matrix_order::descents` meets its contract. The loop's invariant: `count` is the number of descents before `p`. Assumes nothing.
-use mathlib.Core.Path.{◌≡◌, refl, ap, ◌∙◌}
-use Prim.Native.Nat.{ℕ, ◌-◌, ◌≤◌}
-use native.Mathlib.Nat.{le_antisymm}
-use native.Mathlib.Omega.{arith}
+use mathlib.Core.Path.{◌≡◌}
+use Prim.Native.Nat.{◌-◌, ◌≤◌}
 use lib.ListN.{length}
 use Rattle.counting.specs.Paper.Sum.{sum_below}
 use Rattle.matrix_order.specs.Order.{descent}
-use Rattle.matrix_order.proofs.Order.{not_above, byte-bit, count-step, count_most, descent-le, first-counts}
 use Rattle.matrix_order.proofs.descents.Given as goal
 
 abbrev pub invariant-loop-p : goal.invariant-loop-p

@@ -1,5 +1,4 @@
 -- `matrix_order::in_order` meets its contract: the two questions are the law `order-says`. Assumes nothing.
-use borrow.Author.Rules.{rules}
 use Rattle.matrix.proofs.Ordered.{few}
 use Rattle.matrix_order.proofs.Order.{laid, not-empty, order-says}
 use Rattle.matrix_order.proofs.in_order.Goals as goal

@@ -1,13 +1,9 @@
 -- `matrix_order::row_descents` meets its contract. The loop's invariant: `count` is the number of rows before `i` that begin with a descent.
 -- Assumes nothing.
-use mathlib.Core.Path.{◌≡◌, refl, ap, ◌∙◌}
-use Prim.Native.Nat.{ℕ, ◌*◌, ◌-◌, ◌≤◌, ◌<◌}
-use native.Mathlib.Nat.{le_antisymm}
-use native.Mathlib.Omega.{arith}
-use lib.ListN.{length}
+use mathlib.Core.Path.{◌≡◌}
+use Prim.Native.Nat.{◌-◌, ◌≤◌}
 use Rattle.counting.specs.Paper.Sum.{sum_below}
-use Rattle.matrix_order.specs.Order.{descent, row_descent}
-use Rattle.matrix_order.proofs.Order.{not_above, byte-bit, count-step, count_most, row-descent-le, first-row-counts, row-begins, rows-small}
+use Rattle.matrix_order.specs.Order.{row_descent}
 use Rattle.matrix_order.proofs.row_descents.Given as goal
 
 abbrev pub invariant-loop-i : goal.invariant-loop-i

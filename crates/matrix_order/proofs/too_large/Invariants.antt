@@ -1,13 +1,9 @@
 -- `matrix_order::too_large` meets its contract. The loop's invariant: `count` is the number of entries before `p` that are not below n. Assumes nothing.
-use mathlib.Core.Path.{◌≡◌, refl, ap, ◌∙◌}
-use Prim.Native.Nat.{ℕ, ◌-◌, ◌≤◌}
-use native.Mathlib.Nat.{le_antisymm}
-use native.Mathlib.Omega.{arith}
-use lib.Dec.{leb}
-use lib.ListN.{length, get_or}
+use mathlib.Core.Path.{◌≡◌}
+use Prim.Native.Nat.{◌-◌, ◌≤◌}
+use lib.ListN.{length}
 use Rattle.counting.specs.Paper.Sum.{sum_below}
 use Rattle.matrix_order.specs.Order.{not_below}
-use Rattle.matrix_order.proofs.Order.{byte-bit, count-step, count_most, not-below-le}
 use Rattle.matrix_order.proofs.too_large.Given as goal
 
 abbrev pub invariant-loop-p : goal.invariant-loop-p

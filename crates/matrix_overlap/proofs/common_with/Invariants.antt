@@ -1,15 +1,9 @@
 -- `matrix_overlap::common_with` meets its contract. The loop's invariant: `shared` is the sum of the marks passed, at most 32 each. Assumes nothing.
-use mathlib.Core.Path.{◌≡◌, refl, ap, ◌∙◌}
-use Prim.Native.Nat.{ℕ, ◌*◌, ◌-◌, ◌≤◌}
-use native.Mathlib.Numerals.{add-one}
-use native.Mathlib.Omega.{arith}
-use lib.ListN.{get_or}
+use mathlib.Core.Path.{◌≡◌}
+use Prim.Native.Nat.{◌*◌, ◌-◌, ◌≤◌}
 use Rattle.counting.specs.Paper.Sum.{sum_below}
-use Rattle.matrix.specs.Paper.Code.{entry}
 use Rattle.matrix.specs.Paper.Shapes.{matrix_of}
 use Rattle.matrix.specs.Tallies.{mark_at}
-use Rattle.matrix.proofs.Ordered.{column-below}
-use Rattle.matrix.proofs.Tallies.{tally-le, tally-common}
 use Rattle.matrix_overlap.proofs.common_with.Given as goal
 
 abbrev pub invariant-loop-k : goal.invariant-loop-k

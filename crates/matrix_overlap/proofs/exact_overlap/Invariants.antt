@@ -1,10 +1,7 @@
 -- `matrix_overlap::exact_overlap` meets its contract. The loop's invariant: no row passed overlaps a later one. Assumes nothing.
-use mathlib.Core.Path.{◌≡◌, sym, ◌∙◌}
+use mathlib.Core.Path.{◌≡◌}
 use mathlib.Core.Bool.{false}
 use Prim.Native.Nat.{ℕ, ◌-◌, ◌≤◌, ◌<◌}
-use native.Mathlib.Omega.{arith}
-use borrow.Author.Count.{below_more}
-use Rattle.counting.proofs.Searches.{first-none, first-at}
 use Rattle.matrix.specs.Paper.Check.{overlapping}
 use Rattle.matrix.specs.Paper.Shapes.{matrix_of}
 use Rattle.matrix_overlap.proofs.exact_overlap.Given as goal

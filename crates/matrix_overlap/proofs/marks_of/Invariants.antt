@@ -1,11 +1,8 @@
 -- `matrix_overlap::marks_of` meets its contract. The loop's invariant: the marks count the columns passed. Assumes nothing.
-use mathlib.Core.Path.{◌≡◌, refl, subst}
-use Prim.Native.Nat.{ℕ, ◌-◌, ◌≤◌}
-use native.Mathlib.Omega.{arith}
+use Prim.Native.Nat.{◌-◌, ◌≤◌}
 use Rattle.matrix.specs.Paper.Code.{entry}
 use Rattle.matrix.specs.Paper.Shapes.{matrix_of}
 use Rattle.matrix.specs.Tallies.{Tally}
-use Rattle.matrix.proofs.Tallies.{tally-none, tally-more, tally-le}
 use Rattle.matrix_overlap.proofs.marks_of.Given as goal
 
 abbrev pub invariant-loop-k : goal.invariant-loop-k

@@ -1,12 +1,7 @@
 -- `matrix_overlap::row_overlaps` meets its contract. The loop's invariant: row i shares at most one column with each later row passed. Assumes nothing.
-use mathlib.Core.Path.{sym}
 use Prim.Native.Nat.{ℕ, ◌-◌, ◌≤◌, ◌<◌}
-use native.Mathlib.Omega.{arith}
-use borrow.Author.Count.{below_more}
-use Rattle.counting.proofs.Decisions.{test-holds, test-fails}
 use Rattle.matrix.specs.Paper.Code.{common}
 use Rattle.matrix.specs.Paper.Shapes.{matrix_of}
-use Rattle.matrix.proofs.PlainCheck.{overlaps}
 use Rattle.matrix_overlap.proofs.row_overlaps.Given as goal
 
 abbrev pub invariant-loop-later : goal.invariant-loop-later

@@ -1,12 +1,8 @@
 -- `matrix_rows::clear`. The loop's invariant: the first `t` cells are cleared. Assumes nothing.
 use Prim.Native.Nat.{◌-◌, ◌≤◌}
-use mathlib.Core.Path.{◌≡◌, sym}
-use native.Mathlib.Nat.{le_antisymm}
-use native.Mathlib.Omega.{arith}
+use mathlib.Core.Path.{◌≡◌}
 use Rattle.counting.specs.Paper.Lists.{listed, over}
-use Rattle.counting.proofs.Writes.{over_none, over-long, over-step}
 use Rattle.matrix_rows.specs.Filling.{blank}
-use Rattle.matrix_rows.proofs.Filling.{blank-is}
 use Rattle.matrix_rows.proofs.clear.Given as goal
 
 abbrev pub invariant-loop-t : goal.invariant-loop-t

@@ -1,12 +1,10 @@
-use Prim.Native.Nat.{◌-◌, ◌≤◌}
-use mathlib.Core.Path.{◌≡◌, ap, ◌∙◌}
+use mathlib.Core.Path.{ap, ◌∙◌}
 use native.Mathlib.Nat.{le_antisymm}
 use native.Mathlib.Omega.{arith}
 use lib.ListN.{length}
 use Rattle.matrix.specs.Paper.Code.{Matrix}
 use Rattle.matrix.specs.Paper.Shapes.{matrix_of}
 use Rattle.matrix.proofs.Ordered.{accepted-ordered}
-use Rattle.matrix_rows.specs.Filling.{row_put}
 use Rattle.matrix_rows.proofs.Filling.{put-none, put_next, put-long, room-is, word_fits}
 use Rattle.matrix_rows.proofs.place_row.Goals as goal
 

@@ -1,9 +1,6 @@
 use mathlib.Core.Path.{◌≡◌, sym, ◌∙◌}
-use mathlib.Core.Bool.{false}
-use Prim.Native.Nat.{ℕ, ◌-◌, ◌≤◌, ◌<◌}
 use native.Mathlib.Omega.{arith}
 use borrow.Author.Count.{below_more}
-use borrow.Author.Rules.{rules}
 use Rattle.counting.proofs.Searches.{first-none, first-at}
 use Rattle.matrix_weights.specs.Weights.{out_weight}
 use Rattle.matrix_weights.proofs.first_off_weight.Goals as goal

@@ -1,11 +1,7 @@
 -- `matrix_weights::first_off_weight` meets its contract. The loop's invariant: every column passed has a weight from gamma to 32. Assumes nothing.
-use mathlib.Core.Path.{◌≡◌, sym, ◌∙◌}
+use mathlib.Core.Path.{◌≡◌}
 use mathlib.Core.Bool.{false}
 use Prim.Native.Nat.{ℕ, ◌-◌, ◌≤◌, ◌<◌}
-use native.Mathlib.Omega.{arith}
-use borrow.Author.Count.{below_more}
-use borrow.Author.Rules.{rules}
-use Rattle.counting.proofs.Searches.{first-none, first-at}
 use Rattle.matrix_weights.specs.Weights.{out_weight}
 use Rattle.matrix_weights.proofs.first_off_weight.Given as goal
 

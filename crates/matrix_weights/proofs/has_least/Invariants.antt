@@ -1,11 +1,7 @@
 -- `matrix_weights::has_least` meets its contract. The loop's invariant: no column passed weighs gamma. Assumes nothing.
-use mathlib.Core.Path.{◌≡◌, sym}
+use mathlib.Core.Path.{◌≡◌}
 use mathlib.Core.Bool.{false}
 use Prim.Native.Nat.{ℕ, ◌-◌, ◌≤◌, ◌<◌}
-use native.Mathlib.Omega.{arith}
-use borrow.Author.Count.{below_more}
-use borrow.Author.Tests.{eq-eqb, ne_eqb}
-use Rattle.counting.proofs.Searches.{any_none, any_at}
 use Rattle.matrix_weights.specs.Weights.{least_weight}
 use Rattle.matrix_weights.proofs.has_least.Given as goal
 

@@ -1,11 +1,9 @@
-use Prim.Native.Nat.{◌-◌, ◌≤◌}
-use mathlib.Core.Path.{◌≡◌, ap, ◌∙◌}
+use mathlib.Core.Path.{ap, ◌∙◌}
 use native.Mathlib.Nat.{le_antisymm}
 use native.Mathlib.Omega.{arith}
-use borrow.Author.Rules.{rules}
 use Rattle.counting.specs.Paper.Sum.{flag}
 use Rattle.counting.proofs.Sums.{byte_flag}
-use Rattle.matrix_weights.specs.Weights.{out_weight, off_weights}
+use Rattle.matrix_weights.specs.Weights.{out_weight}
 use Rattle.matrix_weights.proofs.Weights.{flag-le, offs-none, offs-more, offs-most}
 use Rattle.matrix_weights.proofs.off_weights.Goals as goal
 

@@ -1,13 +1,7 @@
 -- `matrix_weights::off_weights` meets its contract. The loop's invariant: `off` is how many of the first `q` are off. Assumes nothing.
 use Prim.Native.Nat.{◌-◌, ◌≤◌}
-use mathlib.Core.Path.{◌≡◌, ap, ◌∙◌}
-use native.Mathlib.Nat.{le_antisymm}
-use native.Mathlib.Omega.{arith}
-use borrow.Author.Rules.{rules}
-use Rattle.counting.specs.Paper.Sum.{flag}
-use Rattle.counting.proofs.Sums.{byte_flag}
-use Rattle.matrix_weights.specs.Weights.{out_weight, off_weights}
-use Rattle.matrix_weights.proofs.Weights.{flag-le, offs-none, offs-more, offs-most}
+use mathlib.Core.Path.{◌≡◌}
+use Rattle.matrix_weights.specs.Weights.{off_weights}
 use Rattle.matrix_weights.proofs.off_weights.Given as goal
 
 abbrev pub invariant-loop-q : goal.invariant-loop-q

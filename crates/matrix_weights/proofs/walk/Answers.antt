@@ -1,6 +1,5 @@
 use mathlib.Core.Path.{◌≡◌, sym, ap, ◌∙◌}
-use mathlib.Core.Bool.{false}
-use Prim.Native.Nat.{ℕ, ◌+◌, ◌-◌, ◌%◌, ◌≤◌, ◌<◌}
+use Prim.Native.Nat.{ℕ, ◌+◌, ◌%◌, ◌≤◌}
 use native.Mathlib.Nat.{zero-mod, add-mod_right}
 use native.Mathlib.Omega.{arith}
 use lib.ListN.{length}
@@ -8,9 +7,8 @@ use Rattle.counting.proofs.Searches.{first-none, first-le}
 use Rattle.matrix.specs.Paper.Check.{bad_entry}
 use Rattle.matrix.specs.Paper.Code.{Matrix}
 use Rattle.matrix.specs.Paper.Shapes.{matrix_of}
-use Rattle.matrix.specs.Tallies.{Tally}
 use Rattle.matrix.proofs.Ordered.{few}
-use Rattle.matrix_weights.specs.Weights.{list_at, bad_in_row}
+use Rattle.matrix_weights.specs.Weights.{bad_in_row}
 use Rattle.matrix_weights.proofs.Weights.{row_inside, clear-before, row_first}
 use Rattle.matrix_weights.proofs.walk.Goals as goal
 

@@ -1,12 +1,11 @@
 use mathlib.Core.Path.{◌≡◌, sym, ap, ◌∙◌}
 use mathlib.Core.Bool.{true, false}
-use Prim.Native.Nat.{ℕ, ◌+◌, ◌-◌, ◌≤◌, ◌<◌}
+use Prim.Native.Nat.{ℕ, ◌+◌, ◌<◌}
 use native.Mathlib.Nat.{add-zero}
 use native.Mathlib.Omega.{arith}
 use borrow.Author.Count.{below_more}
 use borrow.Author.Tests.{le-leb, lt-leb}
 use Rattle.counting.proofs.Searches.{first-none, first-at}
-use Rattle.matrix.specs.Tallies.{Tally}
 use Rattle.matrix_weights.specs.Weights.{entry_at, bad_in_row}
 use Rattle.matrix_weights.proofs.Weights.{bad-first, bad-next, good-below, tally-next, tally-room}
 use Rattle.matrix_weights.proofs.walk_row.Goals as goal

@@ -1,16 +1,10 @@
 -- `matrix_weights::walk_row` meets its contract. The loop's invariant: no entry of the row that is passed is bad, the weights count those passed, and
 -- `before` is the last of them. Assumes nothing.
-use mathlib.Core.Path.{◌≡◌, sym, ap, ◌∙◌}
-use mathlib.Core.Bool.{true, false}
+use mathlib.Core.Path.{◌≡◌}
+use mathlib.Core.Bool.{false}
 use Prim.Native.Nat.{ℕ, ◌+◌, ◌-◌, ◌≤◌, ◌<◌}
-use native.Mathlib.Nat.{add-zero}
-use native.Mathlib.Omega.{arith}
-use borrow.Author.Count.{below_more}
-use borrow.Author.Tests.{le-leb, lt-leb}
-use Rattle.counting.proofs.Searches.{first-none, first-at}
 use Rattle.matrix.specs.Tallies.{Tally}
 use Rattle.matrix_weights.specs.Weights.{entry_at, bad_in_row}
-use Rattle.matrix_weights.proofs.Weights.{bad-first, bad-next, good-below, tally-next, tally-room}
 use Rattle.matrix_weights.proofs.walk_row.Given as goal
 
 abbrev pub invariant-loop-k : goal.invariant-loop-k

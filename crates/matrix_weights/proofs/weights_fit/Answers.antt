@@ -1,6 +1,5 @@
 -- `matrix_weights::weights_fit` meets its contract. Assumes nothing.
 use native.Mathlib.Omega.{arith}
-use borrow.Author.Rules.{rules}
 use Rattle.matrix_weights.proofs.Weights.{off-unfit, inside-fit}
 use Rattle.matrix_weights.proofs.weights_fit.Goals as goal
 

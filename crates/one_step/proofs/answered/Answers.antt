@@ -1,6 +1,5 @@
 -- `one_step::answered` meets its contract: the matrix check's refusal, else what follows on the accepted matrix. Assumes nothing.
 use mathlib.Core.Path.{refl, sym, ap, ◌∙◌}
-use borrow.Author.Rules.{rules}
 use Rattle.answers.specs.Paper.Enums.{verdict_of, refusal_number, refusal_place}
 use Rattle.matrix.specs.Paper.Shapes.{matrix_of}
 use Rattle.matrix.proofs.PlainCheck.{accepted-is}

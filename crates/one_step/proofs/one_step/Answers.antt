@@ -1,5 +1,4 @@
 -- `one_step::one_step` meets its contract: the flipping rule is a theorem on what is answered. Assumes nothing.
-use borrow.Author.Rules.{rules}
 use Rattle.answers.specs.Paper.Enums.{said_of}
 use Rattle.matrix.specs.Paper.Code.{Matrix}
 use Rattle.matrix.specs.Paper.Shapes.{matrix_of}

@@ -4,7 +4,6 @@ use native.Mathlib.Omega.{arith}
 use Rattle.answers.specs.Paper.Enums.{report_of}
 use Rattle.counting.specs.Places.{at}
 use Rattle.one_step_core.proofs.Results.{written-long, handed-back}
-use borrow.Author.Rules.{rules}
 use Rattle.one_step_core.proofs.hand_back.Goals as goal
 
 pub slice_bounds-differing-end-2 : goal.slice_bounds-differing-end-2

@@ -1,5 +1,4 @@
 -- `one_step_core::vote` meets its contract: the tally, and where a check fails the flips and the count, are the definition's. Assumes nothing.
-use borrow.Author.Rules.{rules}
 use Rattle.matrix.specs.Paper.Code.{Matrix}
 use Rattle.matrix.specs.Paper.Shapes.{matrix_of}
 use Rattle.one_step_core.proofs.Votes.{stepped-clean, stepped-voted, voted-bits}

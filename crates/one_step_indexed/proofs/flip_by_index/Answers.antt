@@ -1,5 +1,4 @@
 -- `one_step_indexed::flip_by_index`: by gamma where the sizes leave no room for unlike columns, else by the gaps of the index.
-use borrow.Author.Rules.{rules}
 use lib.ListN.{replicate}
 use Rattle.matrix.specs.Paper.Code.{Matrix, Word}
 use Rattle.matrix.specs.Paper.Shapes.{matrix_of}

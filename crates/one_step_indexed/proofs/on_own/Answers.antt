@@ -4,7 +4,6 @@ use Rattle.answers.specs.Paper.Enums.{verdict_of, refusal_number, refusal_place,
 use Rattle.matrix.specs.Paper.Code.{Matrix}
 use Rattle.matrix.specs.Paper.Shapes.{matrix_of}
 use Rattle.one_step.proofs.Calls.{refused-word, word-lent, answered-voted}
-use borrow.Author.Rules.{rules}
 use Rattle.one_step_indexed.proofs.on_own.Goals as goal
 
 pub one_step_own-requires : goal.one_step_own-requires

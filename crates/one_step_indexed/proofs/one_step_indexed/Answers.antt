@@ -8,7 +8,6 @@ use Rattle.matrix.proofs.PlainCheck.{accepted-is}
 use Rattle.matrix_index.specs.Paper.Index.{index_of}
 use Rattle.matrix_index_check.proofs.Claims.{both-accepted}
 use Rattle.one_step_indexed.proofs.Calls.{refused-either, answered-own, answered-alike}
-use borrow.Author.Rules.{rules}
 use Rattle.one_step_indexed.proofs.one_step_indexed.Goals as goal
 
 pub on_own-requires : goal.on_own-requires

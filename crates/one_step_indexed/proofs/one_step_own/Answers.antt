@@ -5,7 +5,6 @@ use Rattle.matrix.specs.Paper.Code.{Matrix}
 use Rattle.matrix.specs.Paper.Shapes.{matrix_of}
 use Rattle.syndrome.proofs.Unpacked.{unpacked-word}
 use Rattle.one_step_core.proofs.Results.{hand-back-lent, voted-call}
-use borrow.Author.Rules.{rules}
 use Rattle.one_step_indexed.proofs.one_step_own.Goals as goal
 
 pub vote-stop-requires : goal.vote-stop-requires

@@ -13,7 +13,6 @@ use Rattle.syndrome_update.proofs.KeptParities.{columns, turned-renewed, rows-re
 use Rattle.majority_votes.specs.Tallies.{Tallied}
 use Rattle.majority_columns.proofs.Columns.{few-rows, column-tallied}
 use Rattle.one_step_core.proofs.Votes.{stepped-clean, stepped-voted, voted-bits}
-use borrow.Author.Rules.{rules}
 use Rattle.one_step_indexed.proofs.vote.Goals as goal
 
 pub row_parities-requires : goal.row_parities-requires

@@ -1,9 +1,6 @@
 -- `packed_distance::eight` meets its contract. The loop's invariant: x is the number that the bytes from byte k to the eighth make. Assumes nothing.
-use mathlib.Core.Path.{◌≡◌, subst}
-use Prim.Native.Nat.{ℕ, suc, ◌+◌, ◌*◌, ◌-◌, ◌≤◌}
-use native.Mathlib.Omega.{arith}
+use Prim.Native.Nat.{◌-◌, ◌≤◌}
 use Rattle.packed_distance.specs.Parts.{WordRead}
-use Rattle.packed_distance.proofs.Words.{read_none, read_more, read-room}
 use Rattle.packed_distance.proofs.eight.Given as goal
 
 abbrev pub invariant-loop-k : goal.invariant-loop-k

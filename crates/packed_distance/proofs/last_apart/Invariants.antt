@@ -1,11 +1,8 @@
 -- `packed_distance::last_apart` meets its contract. The loop's invariant: the number found is that of the bytes from `from` to before q. Assumes nothing.
-use mathlib.Core.Path.{◌≡◌, ap, ◌∙◌}
+use mathlib.Core.Path.{◌≡◌}
 use Prim.Native.Nat.{◌-◌, ◌≤◌}
-use native.Mathlib.Omega.{arith}
 use lib.ListN.{length}
 use Rattle.packed_distance.specs.Parts.{apart_in}
-use Rattle.packed_distance.proofs.Counts.{apart-few}
-use Rattle.packed_distance.proofs.Parts.{apart_none, apart-within, apart-bytes}
 use Rattle.packed_distance.proofs.last_apart.Given as goal
 
 abbrev pub invariant-loop-q : goal.invariant-loop-q

@@ -1,5 +1,4 @@
 -- `packed_distance::places_apart` meets its contract: the words' places and those of the last bytes are the runs' distance. Assumes nothing.
-use borrow.Author.Rules.{rules}
 use mathlib.Core.Path.{◌≡◌}
 use Prim.Native.Nat.{ℕ, ◌+◌, ◌*◌, ◌/◌}
 use native.Mathlib.Omega.{arith}

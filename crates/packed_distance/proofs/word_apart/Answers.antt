@@ -1,5 +1,4 @@
 -- `packed_distance::word_apart` meets its contract: the ones of the words' difference are the places at which their bytes differ. Assumes nothing.
-use borrow.Author.Rules.{rules}
 use mathlib.Core.Path.{ap₂, ◌∙◌}
 use Prim.Native.Nat.{ℕ, ◌-◌}
 use native.Mathlib.Omega.{arith}

@@ -1,5 +1,4 @@
 -- `packed_word::bit_or_zero` meets its contract: each arm is one case of a word that ends at n. Assumes nothing.
-use borrow.Author.Rules.{rules}
 use mathlib.Core.Path.{sym}
 use native.Mathlib.Omega.{arith}
 use Rattle.counting.specs.Places.{at}

@@ -1,5 +1,4 @@
 -- `packed_word::flip_bit` meets its contract: the byte with the shifted 1 xor-ed in has one digit turned over, and no other changed. Assumes nothing.
-use borrow.Author.Rules.{rules}
 use mathlib.Core.Path.{◌≡◌}
 use Prim.Native.Nat.{ℕ, ◌*◌, ◌-◌, ◌%◌, ◌^◌}
 use native.Mathlib.Omega.{arith}

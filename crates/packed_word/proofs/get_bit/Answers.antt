@@ -1,5 +1,4 @@
 -- `packed_word::get_bit` meets its contract: the shifted byte's lowest digit is the bit. Assumes nothing.
-use borrow.Author.Rules.{rules}
 use lib.Bits.{and_mask}
 use Rattle.packed_word.specs.Paper.Packed.{bit_at}
 use Rattle.packed_word.proofs.get_bit.Goals as goal

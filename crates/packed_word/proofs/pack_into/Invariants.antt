@@ -1,14 +1,11 @@
 -- `packed_word::pack_into` meets its contract. The loop's invariant: w is as it was, but for its first q bytes,
 -- which are those of the packed word. Assumes nothing.
-use mathlib.Core.Path.{◌≡◌, refl, sym, ap, ◌∙◌}
-use Prim.Native.Nat.{ℕ, ◌-◌, ◌≤◌}
-use native.Mathlib.Omega.{arith}
-use lib.ListN.{length, length-set}
+use mathlib.Core.Path.{◌≡◌}
+use Prim.Native.Nat.{◌-◌, ◌≤◌}
+use lib.ListN.{length}
 use Rattle.counting.specs.Paper.Lists.{listed, over}
 use Rattle.counting.specs.Places.{at}
-use Rattle.counting.proofs.Writes.{over_none}
-use Rattle.packed_word.specs.Paper.Packed.{bytes_for, packed_byte, pack}
-use Rattle.packed_word.proofs.Stores.{over-next}
+use Rattle.packed_word.specs.Paper.Packed.{packed_byte}
 use Rattle.packed_word.proofs.pack_into.Given as goal
 
 abbrev pub invariant-loop-q : goal.invariant-loop-q

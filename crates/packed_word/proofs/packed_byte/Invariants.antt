@@ -1,10 +1,8 @@
 -- `packed_word::packed_byte` meets its contract. The loop's invariant: b is the number with the byte's first i bits, the highest first. Assumes nothing.
-use mathlib.Core.Path.{◌≡◌, ap, ◌∙◌}
-use Prim.Native.Nat.{ℕ, ◌+◌, ◌*◌, ◌-◌, ◌≤◌}
-use native.Mathlib.Omega.{arith}
+use mathlib.Core.Path.{◌≡◌}
+use Prim.Native.Nat.{◌-◌, ◌≤◌}
 use Rattle.counting.specs.Places.{at}
-use Rattle.packed_word.proofs.Packed.{below-bit, below-small}
-use Rattle.packed_word.proofs.Stores.{eight, binary_of, binary-none, binary-more, binary-all, binary-room}
+use Rattle.packed_word.proofs.Stores.{eight, binary_of}
 use Rattle.packed_word.proofs.packed_byte.Given as goal
 
 abbrev pub invariant-loop-i : goal.invariant-loop-i

@@ -1,10 +1,8 @@
-use mathlib.Core.Bool.{false}
-use mathlib.Core.Path.{◌≡◌, sym, ◌∙◌}
-use Prim.Native.Nat.{ℕ, ◌+◌, ◌*◌, ◌-◌, ◌≤◌}
+use mathlib.Core.Path.{sym, ◌∙◌}
+use Prim.Native.Nat.{ℕ, ◌*◌, ◌-◌}
 use native.Mathlib.Omega.{arith}
 use lib.ListN.{length}
-use Rattle.counting.specs.Paper.Search.{any_below}
-use Rattle.packed_word.proofs.Packed.{spare_one, spare-start, spare-found, spare_more, spare-end}
+use Rattle.packed_word.proofs.Packed.{spare-start, spare-found, spare_more, spare-end}
 use Rattle.packed_word.proofs.spare_set.Goals as goal
 
 pub loop-left-init : goal.loop-left-init

@@ -1,12 +1,10 @@
 -- `packed_word::spare_set` meets its contract. The loop's invariant: of the spare places, all but the last `left` were tested,
 -- and none of those is set. Assumes nothing.
 use mathlib.Core.Bool.{false}
-use mathlib.Core.Path.{◌≡◌, sym, ◌∙◌}
-use Prim.Native.Nat.{ℕ, ◌+◌, ◌*◌, ◌-◌, ◌≤◌}
-use native.Mathlib.Omega.{arith}
-use lib.ListN.{length}
+use mathlib.Core.Path.{◌≡◌}
+use Prim.Native.Nat.{◌+◌, ◌-◌, ◌≤◌}
 use Rattle.counting.specs.Paper.Search.{any_below}
-use Rattle.packed_word.proofs.Packed.{spare_one, spare-start, spare-found, spare_more, spare-end}
+use Rattle.packed_word.proofs.Packed.{spare_one}
 use Rattle.packed_word.proofs.spare_set.Given as goal
 
 abbrev pub invariant-loop-left : goal.invariant-loop-left

@@ -1,10 +1,7 @@
 -- `packed_word::unpack_cells` meets its contract. The loop's invariant: the first j cells are the word's first j bits,
 -- and the others are as they were. Assumes nothing.
-use mathlib.Core.Path.{◌≡◌, subst}
-use Prim.Native.Nat.{ℕ, ◌-◌, ◌≤◌}
-use native.Mathlib.Omega.{arith}
+use Prim.Native.Nat.{◌-◌, ◌≤◌}
 use Rattle.packed_word.specs.Steps.{Unpacked}
-use Rattle.packed_word.proofs.Stores.{unpacked-more}
 use Rattle.packed_word.proofs.unpack_cells.Given as goal
 
 abbrev pub invariant-loop-j : goal.invariant-loop-j

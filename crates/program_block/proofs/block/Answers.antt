@@ -1,6 +1,5 @@
 -- `program_block::block` meets its contract: the line of the answer and the word. Assumes nothing.
 use native.Mathlib.Omega.{arith}
-use borrow.Author.Rules.{rules}
 use lib.ListN.{length-take}
 use Rattle.matrix.specs.Paper.Shapes.{matrix_of}
 use Rattle.quantiser_settings.specs.Paper.Settings.{setting_of}

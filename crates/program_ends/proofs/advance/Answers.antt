@@ -1,7 +1,6 @@
 -- `program_ends::advance` meets its contract: the reply of each stage. Assumes nothing.
 use mathlib.Core.Path.{refl}
 use Rattle.program_ends.proofs.Replies.{asked-at, replied-at}
-use borrow.Author.Rules.{rules}
 use Rattle.program_ends.proofs.advance.Goals as goal
 
 pub after_list-requires : goal.after_list-requires

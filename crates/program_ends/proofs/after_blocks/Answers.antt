@@ -17,7 +17,6 @@ use Rattle.program_lines.specs.Paper.Blocks.{chunk_text}
 use Rattle.program_lines.proofs.BlockLines.{chunk-ends}
 use Rattle.program_ends.specs.Stages.{blocks_from, ends}
 use Rattle.program_ends.proofs.Replies.{text-alone, replied-over, tables-front, countable, blocks_last, blocks_more}
-use borrow.Author.Rules.{rules}
 use Rattle.program_ends.proofs.after_blocks.Goals as goal
 
 pub entries-count-requires : goal.entries-count-requires

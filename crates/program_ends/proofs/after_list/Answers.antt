@@ -9,7 +9,6 @@ use Rattle.program_input.proofs.Openings.{few}
 use Rattle.program_ends.specs.Stages.{the_setting, ends}
 use Rattle.program_ends.proofs.Replies.{text-alone, replied-as, replied-over, list-short, list-whole, kept-short, written-whole}
 use Rattle.byte_numbers.proofs.Lists.{entries-front}
-use borrow.Author.Rules.{rules}
 use Rattle.program_ends.proofs.after_list.Goals as goal
 
 pub entries-want-requires : goal.entries-want-requires

@@ -16,7 +16,6 @@ use Rattle.program_input.specs.Runs.{opened_of}
 use Rattle.program_input.proofs.Openings.{decodable}
 use Rattle.program_ends.specs.Stages.{ends}
 use Rattle.program_ends.proofs.Replies.{text-alone, replied-as, replied-over, setting-short, setting-whole, opened-reply, opened-tables}
-use borrow.Author.Rules.{rules}
 use Rattle.program_ends.proofs.after_setting.Goals as goal
 
 pub returns-then-bytes-lt7 : goal.returns-then-bytes-lt7

@@ -10,7 +10,6 @@ use Rattle.matrix.specs.Paper.Shapes.{matrix_of}
 use Rattle.program_input.proofs.Openings.{few}
 use Rattle.program_ends.specs.Stages.{ends, the_list, goes_on}
 use Rattle.program_ends.proofs.Replies.{text-alone, replied-as, replied-over, sizes-short, sizes-refused, sizes-fit}
-use borrow.Author.Rules.{rules}
 use Rattle.program_ends.proofs.after_sizes.Goals as goal
 
 pub returns-then-bytes-lt8 : goal.returns-then-bytes-lt8

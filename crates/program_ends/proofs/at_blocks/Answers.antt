@@ -1,7 +1,6 @@
 -- `program_ends::at_blocks` meets its contract. Assumes nothing.
 use mathlib.Core.Path.{refl, ap}
 use Prim.Native.Nat.{ℕ, ◌*◌}
-use borrow.Author.Rules.{rules}
 use Rattle.program_ends.proofs.at_blocks.Goals as goal
 
 pub returns : goal.returns

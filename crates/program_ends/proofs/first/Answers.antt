@@ -2,7 +2,6 @@
 use mathlib.Core.Path.{refl}
 use native.Mathlib.Omega.{arith}
 use Rattle.program_ends.proofs.Replies.{text-alone, text-within, text-rest}
-use borrow.Author.Rules.{rules}
 use Rattle.program_ends.proofs.first.Goals as goal
 
 pub returns : goal.returns

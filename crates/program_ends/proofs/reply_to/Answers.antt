@@ -1,7 +1,6 @@
 -- `program_ends::reply_to` meets its contract: the bytes that came are the front of the buffer. Assumes nothing.
 use mathlib.Core.Path.{sym}
 use lib.Seq.{length-take-le}
-use borrow.Author.Rules.{rules}
 use Rattle.program_ends.proofs.reply_to.Goals as goal
 
 pub slice_bounds-advance-end : goal.slice_bounds-advance-end

@@ -1,6 +1,5 @@
 -- `program_input::begin` meets its contract: the matrix is asked first, then the setting. Assumes nothing.
 use mathlib.Core.Path.{sym, ap, ◌∙◌}
-use borrow.Author.Rules.{rules}
 use Rattle.answers.specs.Paper.Enums.{verdict_of}
 use Rattle.matrix.specs.Paper.Shapes.{matrix_of}
 use Rattle.program_input.specs.Paper.Input.{setting_in}

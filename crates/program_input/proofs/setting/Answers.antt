@@ -5,7 +5,6 @@ use mathlib.Core.Bool.{false}
 use Prim.Native.Nat.{ℕ}
 use native.Mathlib.Omega.{arith}
 use borrow.Author.Tests.{not-true, not-false}
-use borrow.Author.Rules.{rules}
 use lib.Ieee.{binary32, of_bits}
 use lib.Ieee.Scale.{finite}
 use Rattle.quantiser_settings.specs.Paper.Settings.{kind_of, float_of}

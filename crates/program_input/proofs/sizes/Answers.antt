@@ -1,5 +1,4 @@
 -- `program_input::sizes` meets its contract. Assumes nothing.
-use borrow.Author.Rules.{rules}
 use Rattle.program_input.specs.Paper.Input.{matrix_in}
 use Rattle.program_input.proofs.sizes.Goals as goal
 

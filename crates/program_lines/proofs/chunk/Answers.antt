@@ -1,5 +1,4 @@
 -- `program_lines::chunk` meets its contract: the lines, and `short` unless the bytes end with a block. Assumes nothing.
-use borrow.Author.Rules.{rules}
 use Rattle.matrix.specs.Paper.Shapes.{matrix_of}
 use Rattle.quantiser_settings.specs.Paper.Settings.{setting_of}
 use Rattle.program_lines.proofs.BlockLines.{chunk_whole, chunk-cut}

@@ -1,10 +1,8 @@
-use Prim.Native.Nat.{◌-◌}
 use native.Mathlib.Omega.{arith}
-use lib.ListN.{length}
 use Rattle.matrix.specs.Paper.Shapes.{matrix_of}
 use Rattle.quantiser_settings.specs.Paper.Settings.{setting_of}
 use Rattle.program_numerals.proofs.Puts.{put-length}
-use Rattle.program_lines.proofs.BlockLines.{Lined, lined-none, counted, lined-asks, lined-more, lined-all}
+use Rattle.program_lines.proofs.BlockLines.{lined-none, counted, lined-asks, lined-more, lined-all}
 use Rattle.program_lines.proofs.lines.Goals as goal
 
 pub overflow_cast-size : goal.overflow_cast-size

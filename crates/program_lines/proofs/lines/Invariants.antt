@@ -1,11 +1,9 @@
 -- `program_lines::lines` meets its contract. The invariant: the lines of the first k blocks are put, and block k begins at `from`. Assumes nothing.
 use Prim.Native.Nat.{◌-◌}
-use native.Mathlib.Omega.{arith}
 use lib.ListN.{length}
 use Rattle.matrix.specs.Paper.Shapes.{matrix_of}
 use Rattle.quantiser_settings.specs.Paper.Settings.{setting_of}
-use Rattle.program_numerals.proofs.Puts.{put-length}
-use Rattle.program_lines.proofs.BlockLines.{Lined, lined-none, counted, lined-asks, lined-more, lined-all}
+use Rattle.program_lines.proofs.BlockLines.{Lined}
 use Rattle.program_lines.proofs.lines.Given as goal
 
 abbrev pub invariant-loop-from : goal.invariant-loop-from

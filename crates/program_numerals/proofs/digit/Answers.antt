@@ -1,6 +1,5 @@
 -- `program_numerals::digit` meets its contract: the test is the definition's. Assumes nothing.
 use borrow.Author.Tests.{lt-ltb, le-ltb}
-use borrow.Author.Rules.{rules}
 use Rattle.program_numerals.specs.Paper.Numerals.{digit}
 use Rattle.program_numerals.proofs.digit.Goals as goal
 

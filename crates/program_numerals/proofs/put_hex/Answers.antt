@@ -1,11 +1,9 @@
 use mathlib.Core.Path.{sym, ap}
-use Prim.Native.Nat.{◌-◌, ◌≤◌, ◌<◌}
+use Prim.Native.Nat.{◌<◌}
 use native.Mathlib.Numerals.{add-one}
 use native.Mathlib.Omega.{arith}
-use borrow.Author.Rules.{rules}
 use lib.ListN.{length, take}
 use lib.Seq.{take-suc, take_all, length-take-le}
-use Rattle.program_numerals.specs.Texts.{Put}
 use Rattle.program_numerals.proofs.Puts.{put-none, put_then, put_as, put-length}
 use Rattle.program_numerals.specs.Paper.Numerals.{hex}
 use Rattle.program_numerals.proofs.Numerals.{hex-append, length-hex}

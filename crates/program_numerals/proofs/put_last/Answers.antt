@@ -2,7 +2,6 @@
 use mathlib.Core.Path.{ap}
 use mathlib.Core.List.{[], ◌∷◌}
 use Prim.Native.Nat.{ℕ}
-use borrow.Author.Rules.{rules}
 use Rattle.program_numerals.proofs.Puts.{put_as}
 use Rattle.program_numerals.proofs.put_last.Goals as goal
 

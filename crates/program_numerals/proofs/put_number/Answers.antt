@@ -1,6 +1,5 @@
 -- `program_numerals::put_number` meets its contract: the digits, and the byte after them. Assumes nothing.
 use native.Mathlib.Omega.{arith}
-use borrow.Author.Rules.{rules}
 use Rattle.program_numerals.proofs.Puts.{put_then, put-length}
 use Rattle.program_numerals.proofs.Numerals.{decimal-five, number-ends}
 use Rattle.program_numerals.proofs.put_number.Goals as goal

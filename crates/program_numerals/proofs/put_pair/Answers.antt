@@ -2,7 +2,6 @@
 use mathlib.Core.Path.{ap₂}
 use mathlib.Core.List.{[], ◌∷◌}
 use Prim.Native.Nat.{ℕ}
-use borrow.Author.Rules.{rules}
 use Rattle.program_numerals.specs.Paper.Numerals.{hex}
 use Rattle.program_numerals.proofs.Puts.{put_as, put_then}
 use Rattle.program_numerals.proofs.put_pair.Goals as goal

@@ -1,11 +1,9 @@
 use mathlib.Core.Path.{sym}
-use Prim.Native.Nat.{◌-◌, ◌≤◌, ◌<◌}
+use Prim.Native.Nat.{◌<◌}
 use native.Mathlib.Numerals.{add-one}
 use native.Mathlib.Omega.{arith}
-use borrow.Author.Rules.{rules}
-use lib.ListN.{length, take}
+use lib.ListN.{length}
 use lib.Seq.{take-suc, take_all, length-take-le}
-use Rattle.program_numerals.specs.Texts.{Put}
 use Rattle.program_numerals.proofs.Puts.{put-none, put_then, put_as, put-length}
 use Rattle.program_numerals.proofs.put_text.Goals as goal
 

@@ -1,13 +1,7 @@
 -- `program_numerals::put_text` meets its contract. The invariant: the first i bytes of the text are put. Assumes nothing.
-use mathlib.Core.Path.{sym}
-use Prim.Native.Nat.{◌-◌, ◌≤◌, ◌<◌}
-use native.Mathlib.Numerals.{add-one}
-use native.Mathlib.Omega.{arith}
-use borrow.Author.Rules.{rules}
+use Prim.Native.Nat.{◌-◌, ◌≤◌}
 use lib.ListN.{length, take}
-use lib.Seq.{take-suc, take_all, length-take-le}
 use Rattle.program_numerals.specs.Texts.{Put}
-use Rattle.program_numerals.proofs.Puts.{put-none, put_then, put_as, put-length}
 use Rattle.program_numerals.proofs.put_text.Given as goal
 
 abbrev pub invariant-loop-i : goal.invariant-loop-i

@@ -1,6 +1,5 @@
 -- `program_numerals::put_word` meets its contract: the digits, and the line's end. Assumes nothing.
 use native.Mathlib.Omega.{arith}
-use borrow.Author.Rules.{rules}
 use Rattle.program_numerals.proofs.Puts.{put_then}
 use Rattle.program_numerals.proofs.Numerals.{length-hex}
 use Rattle.program_numerals.proofs.put_word.Goals as goal

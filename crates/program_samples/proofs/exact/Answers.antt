@@ -1,6 +1,5 @@
 -- `program_samples::exact` meets its contract: refusal 8's place, or the samples' bits, kept levels and marks. Assumes nothing.
 use mathlib.Core.Path.{refl, sym, ap, ◌∙◌}
-use borrow.Author.Rules.{rules}
 use lib.ListN.{length}
 use Rattle.quantiser_bytes.proofs.Blocks.{samples-n, all-written}
 use Rattle.program_samples.proofs.Blocks.{taken_refused, exact-fillable, exact-bounded, taken-exact}

@@ -1,5 +1,4 @@
 -- `program_samples::take_samples` meets its contract: by confirmed guesses, or by the exact rule on arrays that stayed. Assumes nothing.
-use borrow.Author.Rules.{rules}
 use Rattle.program_samples.proofs.Blocks.{taken-guessed, takeable-after, taken-after}
 use Rattle.program_samples.proofs.take_samples.Goals as goal
 

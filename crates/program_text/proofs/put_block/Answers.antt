@@ -1,7 +1,6 @@
 -- `program_text::put_block` meets its contract: the number, and then a report or a refusal. Assumes nothing.
 use mathlib.Core.Path.{sym, ap}
 use native.Mathlib.Omega.{arith}
-use borrow.Author.Rules.{rules}
 use Rattle.answers.specs.declared.Answer.{Answer}
 use Rattle.answers.specs.Paper.Enums.{said_of}
 use Rattle.program_text.specs.Paper.Output.{said_text, block_text}

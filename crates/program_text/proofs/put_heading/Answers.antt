@@ -1,6 +1,5 @@
 -- `program_text::put_heading` meets its contract. Assumes nothing.
 use native.Mathlib.Omega.{arith}
-use borrow.Author.Rules.{rules}
 use Rattle.program_text.specs.Paper.Output.{heading}
 use Rattle.program_text.proofs.put_heading.Goals as goal
 

@@ -2,7 +2,6 @@
 use mathlib.Core.Path.{sym, ap}
 use mathlib.Core.List.{◌++◌}
 use native.Mathlib.Omega.{arith}
-use borrow.Author.Rules.{rules}
 use Rattle.answers.specs.declared.Outcome.{Outcome}
 use Rattle.answers.specs.Paper.Enums.{outcome_of}
 use Rattle.program_numerals.specs.Paper.Numerals.{ascii}

@@ -1,7 +1,6 @@
 -- `program_text::put_refused` meets its contract: the word, the number and the place, one after the other. Assumes nothing.
 use mathlib.Core.Path.{ap₂}
 use native.Mathlib.Omega.{arith}
-use borrow.Author.Rules.{rules}
 use Rattle.program_text.specs.Paper.Output.{line, refused_text}
 use Rattle.program_numerals.proofs.Puts.{put_then, put_as}
 use Rattle.program_text.proofs.put_refused.Goals as goal

@@ -1,6 +1,5 @@
 -- `program_text::put_report` meets its contract: the fields one after the other. Assumes nothing.
 use native.Mathlib.Omega.{arith}
-use borrow.Author.Rules.{rules}
 use Rattle.program_text.specs.Paper.Output.{line, said_text}
 use Rattle.program_numerals.proofs.Puts.{put_then}
 use Rattle.program_text.proofs.put_report.Goals as goal

@@ -1,6 +1,5 @@
 -- `program_text::put_short` meets its contract. Assumes nothing.
 use native.Mathlib.Omega.{arith}
-use borrow.Author.Rules.{rules}
 use Rattle.program_text.specs.Paper.Output.{line, short_text}
 use Rattle.program_text.proofs.put_short.Goals as goal
 

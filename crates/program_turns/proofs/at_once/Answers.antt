@@ -2,7 +2,6 @@
 use mathlib.Core.Path.{ap, sym, ◌∙◌, subst}
 use Prim.Native.Nat.{ℕ, min, ◌-◌}
 use native.Mathlib.Omega.{arith}
-use borrow.Author.Rules.{rules}
 use Rattle.program_turns.specs.Turns.{AtOnce}
 use Rattle.program_turns.proofs.Turns.{at-once}
 use Rattle.program_turns.proofs.at_once.Goals as goal

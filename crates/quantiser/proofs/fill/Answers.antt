@@ -1,6 +1,5 @@
 -- `quantiser::fill` meets its contract: what is stored by the setting's scale are the setting's levels. Assumes nothing.
 use native.Mathlib.Omega.{arith}
-use borrow.Author.Rules.{rules}
 use Rattle.quantiser.proofs.Buffers.{stored-filled}
 use Rattle.quantiser.proofs.fill.Goals as goal
 

@@ -1,17 +1,10 @@
 -- `quantiser::fill_by` meets its contract. The invariant: the levels and the hard bits of the samples passed are stored,
 -- and the other cells stay. Assumes nothing.
-use mathlib.Core.Path.{◌≡◌, subst, ◌∙◌}
-use Prim.Native.Nat.{ℕ, ◌-◌, ◌*◌, ◌^◌, ◌≤◌}
-use native.Mathlib.Omega.{arith}
-use borrow.Author.Rules.{rules, sfits_of}
-use mir.ValLaws.{to_z-of_z}
+use Prim.Native.Nat.{◌-◌, ◌*◌, ◌^◌, ◌≤◌}
 use lib.ListN.{length}
 use Rattle.quantiser_levels.specs.Paper.Samples.{hard_bit}
 use Rattle.quantiser_levels.specs.Scale.{level_at}
 use Rattle.quantiser.specs.Buffers.{Stored}
-use Rattle.quantiser_settings.proofs.Ranges.{all-finite}
-use Rattle.quantiser_levels.proofs.Signs.{cell}
-use Rattle.quantiser.proofs.Buffers.{stored-none, stored_more}
 use Rattle.quantiser.proofs.fill_by.Given as goal
 
 abbrev pub invariant-loop-j : goal.invariant-loop-j

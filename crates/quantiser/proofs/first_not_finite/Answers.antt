@@ -1,10 +1,7 @@
 use mathlib.Core.Path.{◌≡◌, sym, ap, ap₂, ◌∙◌}
-use mathlib.Core.Bool.{false, not, ◌||◌}
-use Prim.Native.Nat.{◌-◌, ◌≤◌}
+use mathlib.Core.Bool.{not, ◌||◌}
 use native.Mathlib.Omega.{arith}
-use borrow.Author.Rules.{rules}
 use lib.ListN.{length}
-use Rattle.counting.specs.Paper.Search.{any_below}
 use Rattle.counting.proofs.Searches.{any_none, any_step, any-clear, first-none, first-at}
 use Rattle.quantiser_levels.specs.Paper.Samples.{not_finite}
 use Rattle.quantiser.proofs.first_not_finite.Goals as goal

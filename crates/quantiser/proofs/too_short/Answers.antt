@@ -1,5 +1,4 @@
 -- `quantiser::too_short` meets its contract: the tests are the definition's in its order. Assumes nothing.
-use borrow.Author.Rules.{rules}
 use borrow.Author.Tests.{lt-ltb, le-ltb}
 use Rattle.quantiser.proofs.too_short.Goals as goal
 

@@ -3,12 +3,8 @@
 use mathlib.Core.Path.{◌≡◌}
 use mathlib.Core.Bool.{not}
 use Prim.Native.Nat.{◌-◌, ◌≤◌}
-use native.Mathlib.Nat.{le_antisymm}
-use native.Mathlib.Omega.{arith}
-use borrow.Author.Rules.{rules}
 use Rattle.counting.specs.Paper.Search.{any_below}
 use Rattle.quantiser_guess.specs.Guess.{misfit}
-use Rattle.quantiser_guess.proofs.Guesses.{fits-none, fits-step}
 use Rattle.quantiser_guess.proofs.all_fit.Given as goal
 
 abbrev pub invariant-loop-j : goal.invariant-loop-j

@@ -1,6 +1,5 @@
 -- `quantiser_guess::fits` meets its contract: the code's two tests are the definition's. Assumes nothing.
 use mathlib.Core.Path.{refl}
-use borrow.Author.Rules.{rules}
 use Rattle.quantiser_guess.specs.Guess.{fits_at}
 use Rattle.quantiser_guess.proofs.fits.Goals as goal
 

@@ -1,8 +1,5 @@
-use Prim.Native.Nat.{◌-◌, ◌≤◌}
 use native.Mathlib.Nat.{le_antisymm}
 use native.Mathlib.Omega.{arith}
-use borrow.Author.Rules.{rules}
-use Rattle.quantiser_guess.specs.Guess.{Guessed}
 use Rattle.quantiser_guess.proofs.Floats.{least-no-nan}
 use Rattle.quantiser_guess.proofs.Guesses.{guessed-none, guessed-step}
 use Rattle.quantiser_guess.proofs.guess_all.Goals as goal

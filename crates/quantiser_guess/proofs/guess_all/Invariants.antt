@@ -1,11 +1,6 @@
 -- `quantiser_guess::guess_all` meets its contract. The invariant: the first j guesses are below 2,048. Assumes nothing.
 use Prim.Native.Nat.{◌-◌, ◌≤◌}
-use native.Mathlib.Nat.{le_antisymm}
-use native.Mathlib.Omega.{arith}
-use borrow.Author.Rules.{rules}
 use Rattle.quantiser_guess.specs.Guess.{Guessed}
-use Rattle.quantiser_guess.proofs.Floats.{least-no-nan}
-use Rattle.quantiser_guess.proofs.Guesses.{guessed-none, guessed-step}
 use Rattle.quantiser_guess.proofs.guess_all.Given as goal
 
 abbrev pub invariant-loop-j : goal.invariant-loop-j

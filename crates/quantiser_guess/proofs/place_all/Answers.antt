@@ -1,8 +1,5 @@
-use Prim.Native.Nat.{◌-◌, ◌≤◌}
 use native.Mathlib.Nat.{le_antisymm}
 use native.Mathlib.Omega.{arith}
-use borrow.Author.Rules.{rules}
-use Rattle.quantiser_guess.specs.Guess.{Laid}
 use Rattle.quantiser_guess.proofs.Guesses.{laid_none, laid-step}
 use Rattle.quantiser_guess.proofs.place_all.Goals as goal
 

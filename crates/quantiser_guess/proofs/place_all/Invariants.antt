@@ -1,11 +1,7 @@
 -- `quantiser_guess::place_all` meets its contract. The invariant: the bits, kept levels and marks of the first j samples are written over the old cells.
 -- Assumes nothing.
 use Prim.Native.Nat.{◌-◌, ◌≤◌}
-use native.Mathlib.Nat.{le_antisymm}
-use native.Mathlib.Omega.{arith}
-use borrow.Author.Rules.{rules}
 use Rattle.quantiser_guess.specs.Guess.{Laid}
-use Rattle.quantiser_guess.proofs.Guesses.{laid_none, laid-step}
 use Rattle.quantiser_guess.proofs.place_all.Given as goal
 
 abbrev pub invariant-loop-j : goal.invariant-loop-j

@@ -1,5 +1,4 @@
 -- `quantiser_levels::capped` meets its contract: the code is the definition of `nearest`, cut at the top. Assumes nothing.
-use borrow.Author.Rules.{rules}
 use native.Mathlib.Omega.{arith}
 use Rattle.quantiser_levels.specs.Paper.Samples.{nearest_whole}
 use Rattle.quantiser_levels.proofs.capped.Goals as goal

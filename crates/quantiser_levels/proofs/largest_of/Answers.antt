@@ -1,11 +1,10 @@
 -- `quantiser_levels::largest_of` meets its contract: the shift loses nothing. Assumes nothing.
 use mathlib.Core.Path.{◌≡◌, ap, ◌∙◌}
-use Prim.Native.Nat.{ℕ, ◌-◌, ◌*◌, ◌^◌, ◌%◌, ◌≤◌}
-use borrow.Author.Rules.{rules}
+use Prim.Native.Nat.{ℕ, ◌-◌, ◌*◌, ◌^◌, ◌%◌}
 use native.Mathlib.Nat.{one-mul}
 use native.Mathlib.Omega.{arith}
 use lib.Dec.{lit<}
-use lib.Pow.{shl_exact, pow_pos, pow_mono}
+use lib.Pow.{shl_exact, pow_pos}
 use Rattle.quantiser_levels.proofs.largest_of.Goals as goal
 
 pub overflow_sub-result-2 : goal.overflow_sub-result-2

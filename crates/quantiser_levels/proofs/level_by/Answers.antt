@@ -1,7 +1,7 @@
 -- `quantiser_levels::level_by` meets its contract: the sign and the units are those of the float taken apart. Assumes nothing.
 use mathlib.Core.Path.{sym, ap, ap₂, ◌∙◌}
 use Prim.Native.Nat.{ℕ, min, ◌*◌, ◌^◌}
-use borrow.Author.Rules.{rules, sfits_of}
+use borrow.Author.Rules.{sfits_of}
 use mir.ValLaws.{to_z-of_z}
 use Rattle.quantiser_levels.specs.Paper.Samples.{nearest_whole, signed}
 use Rattle.quantiser_levels.specs.Scale.{level_by}

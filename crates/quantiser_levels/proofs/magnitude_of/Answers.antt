@@ -2,7 +2,6 @@
 -- (`proofs/Nearest.antt`). Assumes nothing.
 use mathlib.Core.Path.{sym, ap₂, ◌∙◌}
 use Prim.Native.Nat.{ℕ, min, ◌*◌, ◌^◌, ◌≤◌}
-use borrow.Author.Rules.{rules}
 use native.Mathlib.Omega.{arith}
 use Rattle.quantiser_levels.specs.Paper.Samples.{nearest_whole}
 use Rattle.quantiser_levels.proofs.Nearest.{product, shifted, sample-shl, sample-lt, step-shl, step-lt, step-pos}

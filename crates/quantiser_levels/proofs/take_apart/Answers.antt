@@ -1,6 +1,5 @@
 -- `quantiser_levels::take_apart` meets its contract: the fields of the pattern are those of the float (`proofs/Floats.antt`). Assumes nothing.
 use mathlib.Core.Path.{◌≡◌, sym, subst}
-use borrow.Author.Rules.{rules}
 use native.Mathlib.Omega.{arith}
 use lib.Dec.{T}
 use lib.Ieee.{Float, binary32, fits, of_bits, to_bits}

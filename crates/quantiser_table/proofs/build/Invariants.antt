@@ -1,13 +1,9 @@
 -- `quantiser_table::build` meets its contract. The invariant: the first q cells have the least patterns by the setting's scale. Assumes nothing.
-use mathlib.Core.Path.{◌≡◌, refl, sym}
-use Prim.Native.Nat.{◌+◌, ◌-◌, ◌*◌, ◌^◌, ◌≤◌, ◌<◌}
-use native.Mathlib.Omega.{arith}
-use borrow.Author.Rules.{rules}
+use mathlib.Core.Path.{◌≡◌}
+use Prim.Native.Nat.{◌-◌, ◌*◌, ◌^◌, ◌≤◌}
 use lib.ListN.{length}
 use Rattle.counting.specs.Paper.Lists.{listed, over}
-use Rattle.counting.proofs.Writes.{over_none, over-step, over-long}
 use Rattle.quantiser_table.specs.Scales.{least_by}
-use Rattle.quantiser_table.proofs.Tables.{table_filled}
 use Rattle.quantiser_table.proofs.build.Given as goal
 
 abbrev pub invariant-loop-q : goal.invariant-loop-q

@@ -1,6 +1,5 @@
-use Prim.Native.Nat.{◌-◌, ◌*◌, ◌^◌}
+use Prim.Native.Nat.{◌*◌, ◌^◌}
 use native.Mathlib.Omega.{arith}
-use Rattle.quantiser_table.specs.Scales.{Between}
 use Rattle.quantiser_table.proofs.Rising.{between-all, between-one, beyond}
 use Rattle.quantiser_table.proofs.least_pattern.Goals as goal
 

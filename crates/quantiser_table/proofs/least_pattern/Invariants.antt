@@ -1,8 +1,6 @@
 -- `quantiser_table::least_pattern` meets its contract. The invariant: the least pattern is within the span (`proofs/Rising.antt`). Assumes nothing.
 use Prim.Native.Nat.{◌-◌, ◌*◌, ◌^◌}
-use native.Mathlib.Omega.{arith}
 use Rattle.quantiser_table.specs.Scales.{Between}
-use Rattle.quantiser_table.proofs.Rising.{between-all, between-one, beyond}
 use Rattle.quantiser_table.proofs.least_pattern.Given as goal
 
 abbrev pub invariant-loop-s : goal.invariant-loop-s

@@ -1,8 +1,7 @@
 -- `quantiser_table::narrowed` meets its contract. Assumes nothing.
 use Prim.Native.Nat.{◌*◌, ◌^◌}
 use native.Mathlib.Omega.{arith}
-use borrow.Author.Rules.{rules}
-use Rattle.quantiser_table.proofs.Rising.{between_lower, between-upper}
+use Rattle.quantiser_table.proofs.Rising.{between-upper}
 use Rattle.quantiser_table.proofs.narrowed.Goals as goal
 
 pub returns : goal.returns

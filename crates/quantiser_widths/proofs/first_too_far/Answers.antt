@@ -1,13 +1,10 @@
 use mathlib.Core.Path.{◌≡◌, sym, ap, ap₂, ◌∙◌}
-use mathlib.Core.Bool.{false, ◌||◌}
-use Prim.Native.Nat.{◌-◌, ◌≤◌}
+use mathlib.Core.Bool.{◌||◌}
 use native.Mathlib.Omega.{arith}
-use borrow.Author.Rules.{rules}
 use lib.Dec.{ltb}
 use lib.IntN.{ℤ, pos, nat_abs}
 use lib.ListN.{length, get_or}
 use mir.ValLaws.{to_z-of_z}
-use Rattle.counting.specs.Paper.Search.{any_below}
 use Rattle.counting.proofs.Searches.{any_none, any_step, any-clear, first-none, first-at}
 use Rattle.quantiser_levels.proofs.Signs.{cell}
 use Rattle.quantiser_widths.specs.Paper.Widths.{most_old, too_far}

@@ -1,12 +1,12 @@
 use mathlib.Core.Path.{◌≡◌, sym, ap, ◌∙◌}
 use mathlib.Core.List.{List}
-use Prim.Native.Nat.{◌-◌, ◌≤◌}
+use Prim.Native.Nat.{◌≤◌}
 use native.Mathlib.Nat.{le_of_eq}
 use native.Mathlib.Omega.{arith}
 use borrow.Author.Rules.{rules}
 use lib.IntN.{ℤ, pos, nat_abs}
 use lib.ListN.{length, get_or}
-use Rattle.counting.specs.Paper.Lists.{listed, over}
+use Rattle.counting.specs.Paper.Lists.{over}
 use Rattle.counting.proofs.Writes.{listed-get_or, over_none, over-long, over-step}
 use Rattle.quantiser_widths.specs.Paper.Widths.{most_old}
 use Rattle.quantiser_widths.proofs.Verdicts.{all-within}

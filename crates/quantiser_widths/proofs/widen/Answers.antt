@@ -1,6 +1,5 @@
 -- `quantiser_widths::widen` meets its contract: refusal 7 where there is no room, else the old numbers. Assumes nothing.
 use native.Mathlib.Omega.{arith}
-use borrow.Author.Rules.{rules}
 use lib.ListN.{length}
 use Rattle.quantiser_widths.proofs.Verdicts.{widen-short, widen-accepted, widened-refused, widened-accepted}
 use Rattle.quantiser_widths.proofs.widen.Goals as goal

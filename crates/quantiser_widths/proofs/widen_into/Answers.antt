@@ -1,11 +1,10 @@
 use mathlib.Core.Path.{◌≡◌, sym, ap, ◌∙◌}
 use mathlib.Core.List.{List}
-use Prim.Native.Nat.{◌-◌, ◌≤◌}
 use native.Mathlib.Omega.{arith}
 use borrow.Author.Rules.{rules}
 use lib.IntN.{ℤ, pos}
 use lib.ListN.{length, get_or}
-use Rattle.counting.specs.Paper.Lists.{listed, over}
+use Rattle.counting.specs.Paper.Lists.{over}
 use Rattle.counting.proofs.Writes.{listed-get_or, over_none, over-long, over-step}
 use Rattle.quantiser_widths.proofs.Signs.{wide_fits, wide_back}
 use Rattle.quantiser_widths.proofs.widen_into.Goals as goal

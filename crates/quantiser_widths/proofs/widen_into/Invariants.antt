@@ -1,14 +1,9 @@
 -- `quantiser_widths::widen_into` meets its contract. The invariant: the first j old levels are written over the levels. Assumes nothing.
-use mathlib.Core.Path.{◌≡◌, sym, ap, ◌∙◌}
-use mathlib.Core.List.{List}
+use mathlib.Core.Path.{◌≡◌}
 use Prim.Native.Nat.{◌-◌, ◌≤◌}
-use native.Mathlib.Omega.{arith}
-use borrow.Author.Rules.{rules}
-use lib.IntN.{ℤ, pos}
+use lib.IntN.{pos}
 use lib.ListN.{length, get_or}
 use Rattle.counting.specs.Paper.Lists.{listed, over}
-use Rattle.counting.proofs.Writes.{listed-get_or, over_none, over-long, over-step}
-use Rattle.quantiser_widths.proofs.Signs.{wide_fits, wide_back}
 use Rattle.quantiser_widths.proofs.widen_into.Given as goal
 
 abbrev pub invariant-loop-j : goal.invariant-loop-j

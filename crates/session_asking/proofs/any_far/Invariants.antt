@@ -1,17 +1,9 @@
 -- `session_asking::any_far` meets its contract. The loop's invariant: no level passed lies beyond. Assumes nothing.
-use mathlib.Core.Path.{◌≡◌, sym, ap, ◌∙◌}
+use mathlib.Core.Path.{◌≡◌}
 use mathlib.Core.Bool.{false}
 use Prim.Native.Nat.{◌≤◌, ◌-◌}
-use native.Mathlib.Omega.{arith}
-use borrow.Author.Rules.{rules}
-use lib.IntN.{pos, nat_abs}
-use lib.ListN.{get_or}
-use mir.Val.{to_z, of_z}
-use mir.ValLaws.{to_z-of_z}
 use Rattle.counting.specs.Paper.Search.{any_below}
-use Rattle.quantiser_levels.proofs.Signs.{cell}
 use Rattle.session_asking.specs.Parts.{far}
-use Rattle.session_asking.proofs.Questions.{far-found, far-more}
 use Rattle.session_asking.proofs.any_far.Given as goal
 
 abbrev pub invariant-loop-j : goal.invariant-loop-j

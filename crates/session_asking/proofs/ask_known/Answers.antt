@@ -1,7 +1,6 @@
 -- `session_asking::ask_known` meets its contract: 20, 21, 1 to 5 and 22 are asked in this order. Assumes nothing.
 use mathlib.Core.Path.{◌≡◌, ap, ap₂, ◌∙◌}
 use mathlib.Core.Bool.{Bool}
-use borrow.Author.Rules.{rules}
 use Rattle.answers.specs.Paper.Answers.{accepted, refuse_when, and_then}
 use Rattle.answers.specs.Paper.Enums.{verdict_of}
 use Rattle.session_record.specs.Paper.Sessions.{record_of}

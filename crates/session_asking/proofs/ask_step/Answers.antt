@@ -2,7 +2,6 @@
 use mathlib.Core.Path.{sym, ap, ◌∙◌}
 use mathlib.Core.List.{List}
 use Prim.Native.Nat.{ℕ}
-use borrow.Author.Rules.{rules}
 use lib.IntN.{ℤ}
 use Rattle.answers.specs.Paper.Enums.{verdict_of, refusal_number, refusal_place}
 use Rattle.matrix.specs.Paper.Code.{Matrix}

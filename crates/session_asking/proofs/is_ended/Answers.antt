@@ -1,5 +1,4 @@
 -- `session_asking::is_ended` meets its contract: each state is asked as the definition does. Assumes nothing.
-use borrow.Author.Rules.{rules}
 use Rattle.session_asking.specs.Paper.Asked.{ended}
 use Rattle.session_asking.proofs.is_ended.Goals as goal
 

@@ -1,5 +1,4 @@
 -- `session_asking::is_unusable` meets its contract: a working record is asked its numbers, and an empty one is refused. Assumes nothing.
-use borrow.Author.Rules.{rules}
 use Rattle.session_asking.specs.Paper.Asked.{unusable}
 use Rattle.session_asking.proofs.is_unusable.Goals as goal
 

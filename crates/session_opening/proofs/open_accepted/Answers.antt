@@ -1,5 +1,4 @@
 -- `session_opening::open_accepted` meets its contract: the levels and the hard bits, and the counts on them. Assumes nothing.
-use borrow.Author.Rules.{rules}
 use Rattle.counting.specs.Places.{at}
 use Rattle.matrix.specs.Paper.Code.{Matrix, Word}
 use Rattle.matrix.specs.Paper.Shapes.{matrix_of}

@@ -1,6 +1,5 @@
 -- `session_opening::open_value` meets its contract: a refused opening hands everything back. Assumes nothing.
 use mathlib.Core.Path.{◌≡◌, sym, ap, ◌∙◌}
-use borrow.Author.Rules.{rules}
 use Rattle.answers.specs.Paper.Enums.{verdict_of, refusal_number, refusal_place}
 use Rattle.matrix.specs.Paper.Code.{Matrix}
 use Rattle.matrix.specs.Paper.Shapes.{matrix_of}

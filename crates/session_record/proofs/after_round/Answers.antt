@@ -1,5 +1,4 @@
 -- `session_record::after_round` meets its contract: the record and the report have the state that the two tests give. Assumes nothing.
-use borrow.Author.Rules.{rules}
 use Rattle.session_record.proofs.after_round.Goals as goal
 
 pub returns : goal.returns

@@ -1,5 +1,4 @@
 -- `session_record::outcome_in` meets its contract: each state's outcome is the definition's. Assumes nothing.
-use borrow.Author.Rules.{rules}
 use Rattle.session_record.proofs.outcome_in.Goals as goal
 
 pub returns-in-Empty : goal.returns-in-Empty

@@ -1,6 +1,5 @@
 -- `session_round::round_on` meets its contract: the arrays hold the state that is lent, and then the state after a round. Assumes nothing.
 -- ---- the places that the facts are known at
-use borrow.Author.Rules.{rules}
 use Rattle.counting.specs.Places.{at}
 use Rattle.matrix.specs.Paper.Code.{Matrix, Word}
 use Rattle.matrix.specs.Paper.Shapes.{matrix_of}

@@ -1,5 +1,4 @@
 -- `sheet_blocks::block_row` meets its contract: where its rows follow, the block row stands. Assumes nothing.
-use borrow.Author.Rules.{rules}
 use Rattle.sheet_blocks.proofs.Blocks.{stands-says}
 use Rattle.sheet_blocks.proofs.block_row.Goals as goal
 

@@ -1,11 +1,7 @@
 -- `sheet_blocks::rows_follow` meets its contract. The loop's invariant: the first `i` rows are the first row, turned. Assumes nothing.
 use Prim.Native.Nat.{◌-◌, ◌≤◌}
-use native.Mathlib.Nat.{le_antisymm}
-use native.Mathlib.Omega.{arith}
-use Rattle.matrix.specs.Paper.Code.{Matrix}
 use Rattle.matrix.specs.Paper.Shapes.{matrix_of}
 use Rattle.sheet_blocks.specs.Parts.{Follows}
-use Rattle.sheet_blocks.proofs.Blocks.{yes-says, no_says, follows-none, follows-step, follows-fails}
 use Rattle.sheet_blocks.proofs.rows_follow.Given as goal
 
 abbrev pub invariant-loop-i : goal.invariant-loop-i

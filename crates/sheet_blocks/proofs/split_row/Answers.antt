@@ -1,8 +1,7 @@
 use mathlib.Core.Path.{◌≡◌, sym}
-use Prim.Native.Nat.{◌*◌, ◌-◌, ◌≤◌}
+use Prim.Native.Nat.{◌*◌}
 use native.Mathlib.Nat.{le_antisymm, mod-le}
 use native.Mathlib.Omega.{arith}
-use Rattle.counting.specs.Paper.Lists.{listed, over}
 use Rattle.counting.proofs.Writes.{over_none, over-step}
 use Rattle.matrix.specs.Paper.Shapes.{matrix_of}
 use Rattle.sheet_blocks.proofs.Blocks.{start_by, shift_by, start_is, shift_is, split_done, first-in, first-place, short}

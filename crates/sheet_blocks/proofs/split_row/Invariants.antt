@@ -1,13 +1,9 @@
 -- `sheet_blocks::split_row` meets its contract. The loop's invariant: the first `k` starts and shifts are written over the old ones.
 -- Assumes nothing.
-use mathlib.Core.Path.{◌≡◌, sym}
-use Prim.Native.Nat.{◌*◌, ◌-◌, ◌≤◌}
-use native.Mathlib.Nat.{le_antisymm, mod-le}
-use native.Mathlib.Omega.{arith}
+use mathlib.Core.Path.{◌≡◌}
+use Prim.Native.Nat.{◌-◌, ◌≤◌}
 use Rattle.counting.specs.Paper.Lists.{listed, over}
-use Rattle.counting.proofs.Writes.{over_none, over-step}
-use Rattle.matrix.specs.Paper.Shapes.{matrix_of}
-use Rattle.sheet_blocks.proofs.Blocks.{start_by, shift_by, start_is, shift_is, split_done, first-in, first-place, short}
+use Rattle.sheet_blocks.proofs.Blocks.{start_by, shift_by}
 use Rattle.sheet_blocks.proofs.split_row.Given as goal
 
 abbrev pub invariant-loop-k : goal.invariant-loop-k

@@ -1,7 +1,6 @@
 -- `sheet_blocks::turn` meets its contract: the remainder is the sum itself, or z less. Assumes nothing.
 use Prim.Native.Nat.{◌+◌}
 use native.Mathlib.Omega.{arith}
-use borrow.Author.Rules.{rules}
 use Rattle.counting.proofs.Residues.{wrap-low, wrap-high}
 use Rattle.sheet_blocks.proofs.turn.Goals as goal
 

@@ -1,6 +1,5 @@
 -- `sheet_blocks::whole_blocks` meets its contract. Assumes nothing.
 use native.Mathlib.Omega.{arith}
-use borrow.Author.Rules.{rules}
 use Rattle.sheet_blocks.proofs.Blocks.{no_says, filled-says}
 use Rattle.sheet_blocks.proofs.whole_blocks.Goals as goal
 

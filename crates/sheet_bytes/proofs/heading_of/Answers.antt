@@ -1,5 +1,4 @@
 -- `sheet_bytes::heading_of` meets its contract. Assumes nothing.
-use borrow.Author.Rules.{rules}
 use Rattle.sheet.specs.Paper.Sheet.{block_rows, block_columns, block_size}
 use Rattle.sheet_bytes.proofs.heading_of.Goals as goal
 

@@ -1,6 +1,5 @@
 -- `sheet_bytes::is_sheet` meets its contract: fewer than six bytes are no sheet. Assumes nothing.
 use native.Mathlib.Omega.{arith}
-use borrow.Author.Rules.{rules}
 use Rattle.sheet_bytes.proofs.Faults.{short-refused}
 use Rattle.sheet_bytes.proofs.is_sheet.Goals as goal
 

@@ -1,5 +1,4 @@
 -- `sheet_bytes::map_bit` meets its contract: six bytes are 48 places. Assumes nothing.
-use borrow.Author.Rules.{rules}
 use Rattle.sheet.specs.Paper.Sheet.{map_bit}
 use Rattle.sheet_bytes.proofs.map_bit.Goals as goal
 

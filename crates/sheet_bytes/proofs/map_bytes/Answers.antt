@@ -1,6 +1,5 @@
 -- `sheet_bytes::map_bytes` meets its contract: there are fewer than 2 to the 32 places. Assumes nothing.
 use native.Mathlib.Omega.{arith}
-use borrow.Author.Rules.{rules}
 use Rattle.sheet_bytes.proofs.Maps.{product_small}
 use Rattle.sheet_bytes.proofs.map_bytes.Goals as goal
 

@@ -1,10 +1,7 @@
 -- `sheet_bytes::set_from` meets its contract. The loop's invariant: `found` is the number of set places among the first `c`. Assumes nothing.
-use mathlib.Core.Path.{◌≡◌, ap, ◌∙◌}
-use Prim.Native.Nat.{◌+◌, ◌-◌, ◌≤◌}
-use native.Mathlib.Nat.{le_antisymm}
-use native.Mathlib.Omega.{arith}
+use mathlib.Core.Path.{◌≡◌}
+use Prim.Native.Nat.{◌-◌, ◌≤◌}
 use Rattle.sheet_bytes.specs.Parts.{set_from}
-use Rattle.sheet_bytes.proofs.Maps.{from-none, from_more, from-few}
 use Rattle.sheet_bytes.proofs.set_from.Given as goal
 
 abbrev pub invariant-loop-c : goal.invariant-loop-c

@@ -2,7 +2,6 @@
 use mathlib.Core.Path.{◌≡◌, sym, ◌∙◌}
 use mathlib.Core.Bool.{false}
 use native.Mathlib.Omega.{arith}
-use borrow.Author.Rules.{rules}
 use Rattle.sheet.specs.Paper.Sheet.{zero_size, unlike_rows, wrong_length}
 use Rattle.sheet_bytes.specs.Parts.{Mapped}
 use Rattle.sheet_bytes.proofs.Maps.{places-are, places-few}

@@ -1,9 +1,7 @@
 use mathlib.Core.Path.{◌≡◌}
-use mathlib.Core.Bool.{false}
-use Prim.Native.Nat.{◌+◌, ◌*◌, ◌-◌}
+use Prim.Native.Nat.{◌+◌, ◌*◌}
 use native.Mathlib.Omega.{arith}
 use lib.ListN.{length}
-use Rattle.counting.specs.Paper.Search.{any_below}
 use Rattle.sheet.specs.Paper.Sheet.{set_places, shift_at}
 use Rattle.sheet_bytes.proofs.Maps.{places-few}
 use Rattle.sheet_bytes.proofs.Faults.{go_on, too_far, far-start, shift_is, far_at, near-at, long-is, far-found, far_none}

@@ -1,13 +1,9 @@
 -- `sheet_bytes::shift_too_far` meets its contract. The loop's invariant: each of the first `q` shifts is below the block size. Assumes nothing.
 use mathlib.Core.Path.{◌≡◌}
 use mathlib.Core.Bool.{false}
-use Prim.Native.Nat.{◌+◌, ◌*◌, ◌-◌}
-use native.Mathlib.Omega.{arith}
-use lib.ListN.{length}
+use Prim.Native.Nat.{◌-◌}
 use Rattle.counting.specs.Paper.Search.{any_below}
-use Rattle.sheet.specs.Paper.Sheet.{set_places, shift_at}
-use Rattle.sheet_bytes.proofs.Maps.{places-few}
-use Rattle.sheet_bytes.proofs.Faults.{go_on, too_far, far-start, shift_is, far_at, near-at, long-is, far-found, far_none}
+use Rattle.sheet_bytes.proofs.Faults.{too_far}
 use Rattle.sheet_bytes.proofs.shift_too_far.Given as goal
 
 abbrev pub invariant-loop-q : goal.invariant-loop-q

@@ -1,9 +1,7 @@
-use mathlib.Core.Path.{◌≡◌, sym, ◌∙◌}
-use mathlib.Core.Bool.{false}
-use Prim.Native.Nat.{◌+◌, ◌*◌, ◌-◌}
+use mathlib.Core.Path.{sym, ◌∙◌}
+use Prim.Native.Nat.{◌+◌, ◌*◌}
 use native.Mathlib.Omega.{arith}
 use borrow.Author.Tests.{ne_eqb}
-use Rattle.counting.specs.Paper.Search.{any_below}
 use Rattle.sheet.specs.Paper.Sheet.{map_bit}
 use Rattle.sheet_bytes.proofs.Maps.{places-few, map-there}
 use Rattle.sheet_bytes.proofs.Faults.{go_on, spare_one, spare-start, spare-found, spare-none}

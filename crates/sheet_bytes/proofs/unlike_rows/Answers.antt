@@ -1,9 +1,7 @@
 use mathlib.Core.Path.{◌≡◌, ◌∙◌}
-use mathlib.Core.Bool.{false}
-use Prim.Native.Nat.{◌+◌, ◌*◌, ◌-◌, ◌≤◌}
+use Prim.Native.Nat.{◌+◌, ◌*◌, ◌≤◌}
 use native.Mathlib.Omega.{arith}
 use lib.ListN.{length}
-use Rattle.counting.specs.Paper.Search.{any_below}
 use Rattle.sheet.specs.Paper.Sheet.{set_in}
 use Rattle.sheet_bytes.proofs.Maps.{row-there, from_row, from_first}
 use Rattle.sheet_bytes.proofs.Faults.{go_on, row_unlike, unlike-first, unlike-found, like-row, unlike-none}

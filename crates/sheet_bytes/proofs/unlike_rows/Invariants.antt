@@ -1,13 +1,9 @@
 -- `sheet_bytes::unlike_rows` meets its contract. The loop's invariant: none of the first `r` block rows is unlike the first. Assumes nothing.
-use mathlib.Core.Path.{◌≡◌, ◌∙◌}
+use mathlib.Core.Path.{◌≡◌}
 use mathlib.Core.Bool.{false}
-use Prim.Native.Nat.{◌+◌, ◌*◌, ◌-◌, ◌≤◌}
-use native.Mathlib.Omega.{arith}
-use lib.ListN.{length}
+use Prim.Native.Nat.{◌-◌}
 use Rattle.counting.specs.Paper.Search.{any_below}
-use Rattle.sheet.specs.Paper.Sheet.{set_in}
-use Rattle.sheet_bytes.proofs.Maps.{row-there, from_row, from_first}
-use Rattle.sheet_bytes.proofs.Faults.{go_on, row_unlike, unlike-first, unlike-found, like-row, unlike-none}
+use Rattle.sheet_bytes.proofs.Faults.{row_unlike}
 use Rattle.sheet_bytes.proofs.unlike_rows.Given as goal
 
 abbrev pub invariant-loop-r : goal.invariant-loop-r

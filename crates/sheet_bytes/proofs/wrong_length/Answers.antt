@@ -3,7 +3,6 @@ use Prim.Native.Nat.{◌*◌, ◌≤◌}
 use native.Mathlib.Omega.{arith}
 use Rattle.sheet_bytes.proofs.Maps.{product_small, places-few, row-there, from-few}
 use Rattle.sheet_bytes.proofs.Faults.{wrong-is}
-use borrow.Author.Rules.{rules}
 use Rattle.sheet_bytes.proofs.wrong_length.Goals as goal
 
 pub overflow_add-shifts : goal.overflow_add-shifts

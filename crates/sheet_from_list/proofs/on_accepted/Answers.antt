@@ -2,7 +2,6 @@
 use mathlib.Core.Bool.{not}
 use mathlib.Core.Path.{ap}
 use mathlib.Core.Path.{sym, ◌∙◌}
-use borrow.Author.Rules.{rules}
 use borrow.Author.Tests.{not-true, not-false}
 use Rattle.matrix.specs.Paper.Shapes.{matrix_of}
 use Rattle.sheet_from_list.proofs.Answers.{refused-shape}

@@ -1,6 +1,5 @@
 -- `sheet_from_list::on_described` meets its contract: refusal 7 keeps the buffer, else the sheet is stored in it. Assumes nothing.
 use native.Mathlib.Omega.{arith}
-use borrow.Author.Rules.{rules}
 use Rattle.matrix.specs.Paper.Code.{Matrix}
 use Rattle.matrix.specs.Paper.Shapes.{matrix_of}
 use Rattle.sheet.proofs.Described.{describes-grid}

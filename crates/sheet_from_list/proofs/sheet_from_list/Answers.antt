@@ -1,6 +1,5 @@
 -- `sheet_from_list::sheet_from_list` meets its contract: the matrix check's refusal, else what follows on an accepted matrix. Assumes nothing.
 use mathlib.Core.Path.{sym, ap, ◌∙◌}
-use borrow.Author.Rules.{rules}
 use Rattle.answers.specs.Paper.Enums.{verdict_of, refusal_number, refusal_place}
 use Rattle.matrix.specs.Paper.Shapes.{matrix_of}
 use Rattle.matrix.proofs.PlainCheck.{accepted-is}

@@ -1,10 +1,7 @@
-use Prim.Native.Nat.{min, ◌-◌, ◌≤◌}
+use Prim.Native.Nat.{min}
 use mathlib.Core.Path.{◌≡◌, ap₂, ◌∙◌}
 use native.Mathlib.Nat.{le_antisymm}
 use native.Mathlib.Omega.{arith}
-use borrow.Author.Rules.{rules}
-use Rattle.counting.specs.Paper.Sum.{least}
-use Rattle.sheet.specs.Paper.Sheet.{block_rows, set_down}
 use Rattle.sheet_rows.proofs.Lent.{low-none, low-more}
 use Rattle.sheet_rows.proofs.fewest.Goals as goal
 

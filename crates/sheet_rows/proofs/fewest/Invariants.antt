@@ -1,12 +1,8 @@
 -- `sheet_rows::fewest`. The loop's invariant: `low` is the fewest set places of the first `c` block columns.
-use Prim.Native.Nat.{min, ◌-◌, ◌≤◌}
-use mathlib.Core.Path.{◌≡◌, ap₂, ◌∙◌}
-use native.Mathlib.Nat.{le_antisymm}
-use native.Mathlib.Omega.{arith}
-use borrow.Author.Rules.{rules}
+use Prim.Native.Nat.{◌-◌, ◌≤◌}
+use mathlib.Core.Path.{◌≡◌}
 use Rattle.counting.specs.Paper.Sum.{least}
 use Rattle.sheet.specs.Paper.Sheet.{block_rows, set_down}
-use Rattle.sheet_rows.proofs.Lent.{low-none, low-more}
 use Rattle.sheet_rows.proofs.fewest.Given as goal
 
 abbrev pub invariant-loop-c : goal.invariant-loop-c

@@ -1,9 +1,9 @@
-use Prim.Native.Nat.{suc, ◌+◌, ◌*◌, ◌-◌, ◌≤◌}
+use Prim.Native.Nat.{suc, ◌+◌, ◌≤◌}
 use mathlib.Core.Path.{◌≡◌, ap, ◌∙◌}
 use native.Mathlib.Nat.{le_antisymm, zero-mul, add-mul, one-mul, suc-mul, mul-le-mul_right}
 use native.Mathlib.Omega.{arith}
 use lib.ListN.{length}
-use Rattle.sheet_rows.specs.Parts.{turned_at, put_rows}
+use Rattle.sheet_rows.specs.Parts.{turned_at}
 use Rattle.sheet_rows.proofs.Writing.{rows_none, rows_next, rows_long}
 use Rattle.sheet_rows.proofs.put_block.Goals as goal
 

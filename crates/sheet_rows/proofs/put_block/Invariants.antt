@@ -1,11 +1,7 @@
 -- `sheet_rows::put_block`. The loop's invariant: the first `i` rows are written, and the next one goes behind them.
-use Prim.Native.Nat.{suc, ◌+◌, ◌*◌, ◌-◌, ◌≤◌}
-use mathlib.Core.Path.{◌≡◌, ap, ◌∙◌}
-use native.Mathlib.Nat.{le_antisymm, zero-mul, add-mul, one-mul, suc-mul, mul-le-mul_right}
-use native.Mathlib.Omega.{arith}
-use lib.ListN.{length}
+use Prim.Native.Nat.{◌+◌, ◌*◌, ◌-◌, ◌≤◌}
+use mathlib.Core.Path.{◌≡◌}
 use Rattle.sheet_rows.specs.Parts.{turned_at, put_rows}
-use Rattle.sheet_rows.proofs.Writing.{rows_none, rows_next, rows_long}
 use Rattle.sheet_rows.proofs.put_block.Given as goal
 
 abbrev pub invariant-loop-i : goal.invariant-loop-i

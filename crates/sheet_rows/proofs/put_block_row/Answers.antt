@@ -1,7 +1,6 @@
 -- `sheet_rows::put_block_row`: by the starting columns and the shifts that are read, the rows that are written are the sheet's.
 use Prim.Native.Nat.{◌+◌, ◌*◌, ◌≤◌}
 use native.Mathlib.Omega.{arith}
-use borrow.Author.Rules.{rules}
 use lib.ListN.{length}
 use Rattle.sheet_rows.proofs.Lent.{row_inside}
 use Rattle.sheet_rows.proofs.Starting.{blocks-of, rows-turned}

@@ -1,10 +1,8 @@
-use Prim.Native.Nat.{◌*◌, ◌-◌, ◌≤◌}
 use mathlib.Core.Path.{◌≡◌}
 use native.Mathlib.Nat.{le_antisymm, mul_assoc}
 use native.Mathlib.Omega.{arith}
 use lib.ListN.{length}
-use Rattle.counting.specs.Paper.Lists.{listed, over}
-use Rattle.sheet_rows.proofs.Listing.{cells, list-none, list-next, list-room, list_all}
+use Rattle.sheet_rows.proofs.Listing.{list-none, list-next, list-room, list_all}
 use Rattle.sheet_rows.proofs.put_list.Goals as goal
 
 pub loop-r-init : goal.loop-r-init

@@ -1,11 +1,8 @@
 -- `sheet_rows::put_list`. The loop's invariant: the first `r` block rows are written over the memory.
 use Prim.Native.Nat.{◌*◌, ◌-◌, ◌≤◌}
 use mathlib.Core.Path.{◌≡◌}
-use native.Mathlib.Nat.{le_antisymm, mul_assoc}
-use native.Mathlib.Omega.{arith}
-use lib.ListN.{length}
 use Rattle.counting.specs.Paper.Lists.{listed, over}
-use Rattle.sheet_rows.proofs.Listing.{cells, list-none, list-next, list-room, list_all}
+use Rattle.sheet_rows.proofs.Listing.{cells}
 use Rattle.sheet_rows.proofs.put_list.Given as goal
 
 abbrev pub invariant-loop-r : goal.invariant-loop-r

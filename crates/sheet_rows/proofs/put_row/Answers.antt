@@ -1,11 +1,10 @@
-use Prim.Native.Nat.{◌+◌, ◌-◌, ◌≤◌, ◌<◌}
+use Prim.Native.Nat.{◌+◌, ◌<◌}
 use mathlib.Core.Path.{◌≡◌, ap, ◌∙◌}
 use native.Mathlib.Nat.{le_antisymm, mod-lt}
 use native.Mathlib.Omega.{arith}
-use borrow.Author.Rules.{rules}
 use lib.ListN.{length}
 use Rattle.counting.specs.Places.{at}
-use Rattle.sheet_rows.specs.Parts.{turned_at, put_from}
+use Rattle.sheet_rows.specs.Parts.{turned_at}
 use Rattle.sheet_rows.proofs.Writing.{put-none, put_next, put-long}
 use Rattle.sheet_rows.proofs.put_row.Goals as goal
 

@@ -1,13 +1,7 @@
 -- `sheet_rows::put_row`. The loop's invariant: the first `k` entries of the row are written.
-use Prim.Native.Nat.{◌+◌, ◌-◌, ◌≤◌, ◌<◌}
-use mathlib.Core.Path.{◌≡◌, ap, ◌∙◌}
-use native.Mathlib.Nat.{le_antisymm, mod-lt}
-use native.Mathlib.Omega.{arith}
-use borrow.Author.Rules.{rules}
-use lib.ListN.{length}
-use Rattle.counting.specs.Places.{at}
+use Prim.Native.Nat.{◌-◌, ◌≤◌}
+use mathlib.Core.Path.{◌≡◌}
 use Rattle.sheet_rows.specs.Parts.{turned_at, put_from}
-use Rattle.sheet_rows.proofs.Writing.{put-none, put_next, put-long}
 use Rattle.sheet_rows.proofs.put_row.Given as goal
 
 abbrev pub invariant-loop-k : goal.invariant-loop-k

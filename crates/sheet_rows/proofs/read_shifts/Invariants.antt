@@ -1,14 +1,8 @@
 -- `sheet_rows::read_shifts`. The loop's invariant: the first `k` shifts of the block row are written over the old cells.
-use Prim.Native.Nat.{◌+◌, ◌*◌, ◌-◌, ◌≤◌}
-use mathlib.Core.Path.{◌≡◌, sym, ap, ◌∙◌}
-use native.Mathlib.Nat.{le_antisymm}
-use native.Mathlib.Omega.{arith}
-use lib.ListN.{length}
+use Prim.Native.Nat.{◌*◌, ◌-◌, ◌≤◌}
+use mathlib.Core.Path.{◌≡◌}
 use Rattle.counting.specs.Paper.Lists.{listed, over}
-use Rattle.counting.proofs.Writes.{over_none, over-step, over-long}
-use Rattle.byte_numbers.specs.Paper.Numbers.{number16}
 use Rattle.sheet_rows.specs.Parts.{shift_from}
-use Rattle.sheet_rows.proofs.Lent.{map-small, before_small, shift-place, shift-there}
 use Rattle.sheet_rows.proofs.read_shifts.Given as goal
 
 abbrev pub invariant-loop-k : goal.invariant-loop-k

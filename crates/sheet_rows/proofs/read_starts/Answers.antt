@@ -1,10 +1,7 @@
-use Prim.Native.Nat.{◌*◌, ◌-◌, ◌≤◌}
+use Prim.Native.Nat.{◌*◌, ◌≤◌}
 use mathlib.Core.Path.{◌≡◌, sym, ap, ◌∙◌}
 use native.Mathlib.Nat.{le_antisymm}
 use native.Mathlib.Omega.{arith}
-use Rattle.counting.specs.Paper.Sum.{sum_below}
-use Rattle.sheet.specs.Paper.Sheet.{set_at}
-use Rattle.sheet_rows.specs.Parts.{Starts}
 use Rattle.sheet_rows.proofs.Lent.{place-small, place-there, place-bit, set-none, set_more, block_inside}
 use Rattle.sheet_rows.proofs.Starting.{starts_none, starts_more, few-before}
 use Rattle.sheet_rows.proofs.read_starts.Goals as goal

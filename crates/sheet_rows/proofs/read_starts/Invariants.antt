@@ -1,13 +1,9 @@
 -- `sheet_rows::read_starts`. The loop's invariant: `k` of the first `c` blocks are set, and their starting columns are written.
-use Prim.Native.Nat.{◌*◌, ◌-◌, ◌≤◌}
-use mathlib.Core.Path.{◌≡◌, sym, ap, ◌∙◌}
-use native.Mathlib.Nat.{le_antisymm}
-use native.Mathlib.Omega.{arith}
+use Prim.Native.Nat.{◌-◌, ◌≤◌}
+use mathlib.Core.Path.{◌≡◌}
 use Rattle.counting.specs.Paper.Sum.{sum_below}
 use Rattle.sheet.specs.Paper.Sheet.{set_at}
 use Rattle.sheet_rows.specs.Parts.{Starts}
-use Rattle.sheet_rows.proofs.Lent.{place-small, place-there, place-bit, set-none, set_more, block_inside}
-use Rattle.sheet_rows.proofs.Starting.{starts_none, starts_more, few-before}
 use Rattle.sheet_rows.proofs.read_starts.Given as goal
 
 abbrev pub invariant-loop-c : goal.invariant-loop-c

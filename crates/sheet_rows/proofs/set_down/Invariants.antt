@@ -1,10 +1,7 @@
 -- `sheet_rows::set_down`. The loop's invariant: the set places of the block column in the first `r` block rows are counted.
 use Prim.Native.Nat.{◌-◌, ◌≤◌}
-use mathlib.Core.Path.{◌≡◌, ap, ◌∙◌}
-use native.Mathlib.Nat.{le_antisymm}
-use native.Mathlib.Omega.{arith}
+use mathlib.Core.Path.{◌≡◌}
 use Rattle.sheet_rows.specs.Parts.{set_above}
-use Rattle.sheet_rows.proofs.Lent.{place-small, place-there, place-bit, down-none, down-more, down-all}
 use Rattle.sheet_rows.proofs.set_down.Given as goal
 
 abbrev pub invariant-loop-r : goal.invariant-loop-r

@@ -1,9 +1,7 @@
 use mathlib.Core.Path.{◌≡◌, refl, sym}
-use Prim.Native.Nat.{◌-◌, ◌≤◌}
 use native.Mathlib.Nat.{le_antisymm}
 use native.Mathlib.Omega.{arith}
 use lib.ListN.{length}
-use Rattle.counting.specs.Paper.Lists.{listed, over}
 use Rattle.counting.proofs.Writes.{over_none, over-long, over-step}
 use Rattle.sheet_store.proofs.Joining.{cleared}
 use Rattle.sheet_store.proofs.clear.Goals as goal

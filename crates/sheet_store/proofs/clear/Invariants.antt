@@ -1,12 +1,8 @@
 -- `sheet_store::clear` meets its contract. The loop's invariant: the bytes are as they were, but for the first q, which are 0. Assumes nothing.
-use mathlib.Core.Path.{◌≡◌, refl, sym}
+use mathlib.Core.Path.{◌≡◌}
 use Prim.Native.Nat.{◌-◌, ◌≤◌}
-use native.Mathlib.Nat.{le_antisymm}
-use native.Mathlib.Omega.{arith}
 use lib.ListN.{length}
 use Rattle.counting.specs.Paper.Lists.{listed, over}
-use Rattle.counting.proofs.Writes.{over_none, over-long, over-step}
-use Rattle.sheet_store.proofs.Joining.{cleared}
 use Rattle.sheet_store.proofs.clear.Given as goal
 
 abbrev pub invariant-loop-q : goal.invariant-loop-q

@@ -1,4 +1,4 @@
-use Prim.Native.Nat.{◌+◌, ◌*◌, ◌-◌, ◌/◌, ◌≤◌, ◌<◌}
+use Prim.Native.Nat.{◌+◌, ◌*◌, ◌/◌, ◌<◌}
 use mathlib.Core.Path.{◌≡◌, sym, subst, ◌∙◌}
 use native.Mathlib.Nat.{le_antisymm}
 use native.Mathlib.Omega.{arith}
@@ -6,7 +6,6 @@ use Rattle.packed_word.specs.Steps.{SetBit}
 use Rattle.matrix.specs.Paper.Code.{Matrix}
 use Rattle.matrix.specs.Paper.Shapes.{matrix_of}
 use Rattle.matrix.proofs.Ordered.{accepted-ordered}
-use Rattle.sheet_store.specs.Storing.{Marked}
 use Rattle.sheet_store.proofs.Marking.{row_in, place_is, place-small, place-fits, marked_step, marked_row}
 use Rattle.sheet_store.proofs.mark_row.Goals as goal
 

@@ -1,15 +1,8 @@
 -- `sheet_store::mark_row` meets its contract. The loop's invariant: the first k ones of the block row are marked, beside those of the block rows
 -- before it. Assumes nothing.
-use Prim.Native.Nat.{◌+◌, ◌*◌, ◌-◌, ◌/◌, ◌≤◌, ◌<◌}
-use mathlib.Core.Path.{◌≡◌, sym, subst, ◌∙◌}
-use native.Mathlib.Nat.{le_antisymm}
-use native.Mathlib.Omega.{arith}
-use Rattle.packed_word.specs.Steps.{SetBit}
-use Rattle.matrix.specs.Paper.Code.{Matrix}
+use Prim.Native.Nat.{◌-◌, ◌≤◌}
 use Rattle.matrix.specs.Paper.Shapes.{matrix_of}
-use Rattle.matrix.proofs.Ordered.{accepted-ordered}
 use Rattle.sheet_store.specs.Storing.{Marked}
-use Rattle.sheet_store.proofs.Marking.{row_in, place_is, place-small, place-fits, marked_step, marked_row}
 use Rattle.sheet_store.proofs.mark_row.Given as goal
 
 abbrev pub invariant-loop-k : goal.invariant-loop-k

@@ -1,6 +1,5 @@
 -- `sheet_store::put_heading` meets its contract: three numbers one after the other. Assumes nothing.
 use mathlib.Core.Path.{◌∙◌}
-use borrow.Author.Rules.{rules}
 use Rattle.sheet_store.proofs.put_heading.Goals as goal
 
 pub returns : goal.returns

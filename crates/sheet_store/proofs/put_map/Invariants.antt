@@ -1,15 +1,8 @@
 -- `sheet_store::put_map` meets its contract. The loop's invariant: the ones of the block rows before row r are marked. Assumes nothing.
-use Prim.Native.Nat.{ℕ, ◌-◌, ◌/◌, ◌≤◌}
-use mathlib.Core.Path.{◌≡◌, ap, sym, ◌∙◌}
-use native.Mathlib.Nat.{le_antisymm, div-le_self}
-use native.Mathlib.Omega.{arith}
-use borrow.Author.Rules.{rules}
-use lib.ListN.{replicate}
+use Prim.Native.Nat.{◌-◌, ◌≤◌}
 use Rattle.packed_word.specs.Paper.Packed.{Bytes}
-use Rattle.matrix.specs.Paper.Code.{Matrix}
 use Rattle.matrix.specs.Paper.Shapes.{matrix_of}
 use Rattle.sheet_store.specs.Storing.{Marked}
-use Rattle.sheet_store.proofs.Marking.{marked-none, marked_all}
 use Rattle.sheet_store.proofs.put_map.Given as goal
 
 abbrev pub invariant-loop-r : goal.invariant-loop-r

@@ -1,17 +1,10 @@
 -- `sheet_store::put_row_shifts` meets its contract. The loop's invariant: the first k shifts of the block row are written. Assumes nothing.
 use Prim.Native.Nat.{◌-◌, ◌≤◌}
-use mathlib.Core.Path.{◌≡◌, ap, ◌∙◌}
-use native.Mathlib.Nat.{le_antisymm, mod-le}
-use native.Mathlib.Omega.{arith}
-use lib.ListN.{length}
-use lib.Seq.{sets, length-sets}
+use mathlib.Core.Path.{◌≡◌}
+use lib.Seq.{sets}
 use Rattle.counting.specs.Paper.Joined.{joined}
-use Rattle.matrix.specs.Paper.Code.{Matrix}
 use Rattle.matrix.specs.Paper.Shapes.{matrix_of}
-use Rattle.matrix.proofs.Ordered.{accepted-ordered}
-use Rattle.sheet_store.proofs.Marking.{row_in}
 use Rattle.sheet_store.specs.Storing.{shift_bytes}
-use Rattle.sheet_store.proofs.Shifts.{shift_none, shift-next, shift-all}
 use Rattle.sheet_store.proofs.put_row_shifts.Given as goal
 
 abbrev pub invariant-loop-k : goal.invariant-loop-k

@@ -1,16 +1,10 @@
 -- `sheet_store::put_shifts` meets its contract. The loop's invariant: the shifts of the block rows before row r are written. Assumes nothing.
-use Prim.Native.Nat.{◌+◌, ◌*◌, ◌-◌, ◌/◌, ◌≤◌, ◌<◌}
-use mathlib.Core.Path.{◌≡◌, ap, ◌∙◌}
-use native.Mathlib.Nat.{le_antisymm, div-le_self}
-use native.Mathlib.Omega.{arith}
-use lib.ListN.{length}
-use lib.Seq.{sets, length-sets}
+use Prim.Native.Nat.{◌-◌, ◌≤◌}
+use mathlib.Core.Path.{◌≡◌}
+use lib.Seq.{sets}
 use Rattle.counting.specs.Paper.Joined.{joined}
-use Rattle.matrix.specs.Paper.Code.{Matrix}
 use Rattle.matrix.specs.Paper.Shapes.{matrix_of}
-use Rattle.byte_numbers.proofs.Joining.{sets-none}
 use Rattle.sheet_store.specs.Storing.{row_shifts}
-use Rattle.sheet_store.proofs.Shifts.{row_next, row_room}
 use Rattle.sheet_store.proofs.put_shifts.Given as goal
 
 abbrev pub invariant-loop-r : goal.invariant-loop-r

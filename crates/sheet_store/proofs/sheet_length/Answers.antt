@@ -3,7 +3,6 @@ use Prim.Native.Nat.{◌*◌, ◌/◌, ◌≤◌}
 use mathlib.Core.Path.{sym}
 use native.Mathlib.Nat.{div-le_self}
 use native.Mathlib.Omega.{arith}
-use borrow.Author.Rules.{rules}
 use Rattle.matrix.specs.Paper.Shapes.{matrix_of}
 use Rattle.sheet.proofs.MadeBytes.{made-long}
 use Rattle.sheet_store.proofs.Whole.{few-places, few-shifts}

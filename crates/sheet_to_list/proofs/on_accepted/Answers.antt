@@ -1,6 +1,5 @@
 -- `sheet_to_list::on_accepted`: refusal 7 keeps both buffers, else sizes and list are written.
 use native.Mathlib.Omega.{arith}
-use borrow.Author.Rules.{rules}
 use Rattle.matrix.specs.Paper.Code.{Matrix}
 use Rattle.matrix.specs.Paper.Shapes.{matrix_of}
 use Rattle.sheet_to_list.proofs.Answers.{refused-sizes, refused-list, both-written}

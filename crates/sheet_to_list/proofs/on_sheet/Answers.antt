@@ -2,7 +2,6 @@
 use Prim.Native.Nat.{◌*◌}
 use mathlib.Core.Path.{refl, ap₂}
 use native.Mathlib.Omega.{arith}
-use borrow.Author.Rules.{rules}
 use Rattle.sheet.specs.Paper.SheetMatrix.{matrix_of_sheet}
 use Rattle.sheet.proofs.Order.{too_wide, too-high}
 use Rattle.sheet_bytes.proofs.Maps.{product_small}

@@ -1,7 +1,6 @@
 -- `sheet_to_list::on_sizes`: the list at the front of the array is the sheet's, so what is answered is of the sheet's matrix.
 use mathlib.Core.Path.{refl, sym, ap, ◌∙◌}
 use native.Mathlib.Omega.{arith}
-use borrow.Author.Rules.{rules}
 use lib.ListN.{length}
 use Rattle.sheet_to_list.proofs.Answers.{answered-by}
 use Rattle.sheet_to_list.proofs.Sizes.{made-lent, made-room, made-count, made-few, made-long, made-front, made-own}

@@ -1,5 +1,4 @@
 -- `sheet_to_list::put_sizes`: four stores, one after the other.
-use borrow.Author.Rules.{rules}
 use Rattle.sheet_to_list.proofs.Sizes.{second-there, third-there, sizes-put}
 use Rattle.sheet_to_list.proofs.put_sizes.Goals as goal
 

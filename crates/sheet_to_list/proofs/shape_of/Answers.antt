@@ -1,6 +1,5 @@
 -- `sheet_to_list::shape_of`: each size as the sheet has it, and small enough for 16 bits.
 use native.Mathlib.Omega.{arith}
-use borrow.Author.Rules.{rules}
 use Rattle.sheet_to_list.proofs.Sizes.{first-there, row_small, low_small, shape-own}
 use Rattle.sheet_to_list.proofs.shape_of.Goals as goal
 

@@ -1,7 +1,6 @@
 -- `syndrome::ask_word` meets its contract: its tests are refusals 7 and 9, in this order. Assumes nothing.
 use mathlib.Core.Path.{◌≡◌, sym, ap, ◌∙◌}
 use mathlib.Core.Bool.{Bool, false}
-use borrow.Author.Rules.{rules}
 use lib.ListN.{length}
 use Rattle.answers.specs.Paper.Answers.{accepted, refuse_when, wrong_lengths}
 use Rattle.answers.proofs.Verdicts.{lengths-fit}

@@ -1,14 +1,9 @@
 -- `syndrome::failing_count`. The loop's invariant: `count` is the number of rows below `i` whose checks fail.
-use Prim.Native.Nat.{ℕ, ◌-◌, ◌≤◌}
-use mathlib.Core.Path.{◌≡◌, refl, ap, ◌∙◌}
-use native.Mathlib.Nat.{le_antisymm}
-use native.Mathlib.Omega.{arith}
+use Prim.Native.Nat.{◌-◌, ◌≤◌}
+use mathlib.Core.Path.{◌≡◌}
 use Rattle.counting.specs.Paper.Sum.{sum_below}
 use Rattle.counting.specs.Places.{at}
-use Rattle.matrix.specs.Paper.Code.{failing}
-use Rattle.matrix.specs.Paper.Shapes.{matrix_of}
 use Rattle.syndrome.specs.Places.{row_fails}
-use Rattle.syndrome.proofs.Parity.{row-part, checks, row_is, row-fails, count-step, count_most}
 use Rattle.syndrome.proofs.failing_count.Given as goal
 
 abbrev pub invariant-loop-i : goal.invariant-loop-i

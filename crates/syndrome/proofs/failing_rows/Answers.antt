@@ -1,5 +1,4 @@
 -- `syndrome::failing_rows`: the rows that are listed by their parities are those whose checks fail.
-use borrow.Author.Rules.{rules}
 use native.Mathlib.Omega.{arith}
 use Rattle.counting.specs.Places.{at}
 use Rattle.matrix.specs.Paper.Code.{fails}

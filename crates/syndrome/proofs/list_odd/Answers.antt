@@ -1,9 +1,7 @@
-use Prim.Native.Nat.{◌-◌, ◌≤◌}
 use mathlib.Core.Path.{refl, sym, ◌∙◌}
 use native.Mathlib.Nat.{le_antisymm}
 use native.Mathlib.Omega.{arith}
 use Rattle.counting.specs.Places.{at}
-use Rattle.syndrome.specs.Places.{PlacesListed}
 use Rattle.syndrome.proofs.Lists.{listed-none, listed-step}
 use Rattle.syndrome.proofs.list_odd.Goals as goal
 

@@ -1,11 +1,7 @@
 -- `syndrome::list_odd`. The loop's invariant: the first `t` of `rows` are the rows below `i` whose parity is 1, each once.
 use Prim.Native.Nat.{◌-◌, ◌≤◌}
-use mathlib.Core.Path.{refl, sym, ◌∙◌}
-use native.Mathlib.Nat.{le_antisymm}
-use native.Mathlib.Omega.{arith}
 use Rattle.counting.specs.Places.{at}
 use Rattle.syndrome.specs.Places.{PlacesListed}
-use Rattle.syndrome.proofs.Lists.{listed-none, listed-step}
 use Rattle.syndrome.proofs.list_odd.Given as goal
 
 abbrev pub invariant-loop-i : goal.invariant-loop-i

@@ -1,10 +1,8 @@
-use Prim.Native.Nat.{◌-◌, ◌≤◌}
-use mathlib.Core.Path.{◌≡◌, sym}
+use mathlib.Core.Path.{sym}
 use native.Mathlib.Nat.{le_antisymm}
 use native.Mathlib.Omega.{arith}
-use Rattle.counting.specs.Paper.Lists.{listed, over}
 use Rattle.counting.specs.Places.{at}
-use Rattle.counting.proofs.Writes.{over_none, over-long, over-step}
+use Rattle.counting.proofs.Writes.{over_none, over-step}
 use Rattle.syndrome.specs.Places.{row_fails}
 use Rattle.syndrome.proofs.Parity.{row_is}
 use Rattle.syndrome.proofs.parities.Goals as goal

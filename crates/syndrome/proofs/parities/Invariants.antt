@@ -1,13 +1,9 @@
 -- `syndrome::parities`. The loop's invariant: the parities of the first `i` rows are written over the old ones.
 use Prim.Native.Nat.{◌-◌, ◌≤◌}
-use mathlib.Core.Path.{◌≡◌, sym}
-use native.Mathlib.Nat.{le_antisymm}
-use native.Mathlib.Omega.{arith}
+use mathlib.Core.Path.{◌≡◌}
 use Rattle.counting.specs.Paper.Lists.{listed, over}
 use Rattle.counting.specs.Places.{at}
-use Rattle.counting.proofs.Writes.{over_none, over-long, over-step}
 use Rattle.syndrome.specs.Places.{row_fails}
-use Rattle.syndrome.proofs.Parity.{row_is}
 use Rattle.syndrome.proofs.parities.Given as goal
 
 abbrev pub invariant-loop-i : goal.invariant-loop-i

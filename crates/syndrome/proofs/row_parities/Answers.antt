@@ -1,7 +1,6 @@
 -- `syndrome::row_parities`: each case is `parities` at that row weight.
 use mathlib.Core.Path.{◌≡◌}
 use native.Mathlib.Omega.{arith}
-use borrow.Author.Rules.{rules}
 use Rattle.syndrome.proofs.row_parities.Goals as goal
 
 pub parities-requires : goal.parities-requires

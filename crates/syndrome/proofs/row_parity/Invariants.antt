@@ -1,12 +1,8 @@
 -- `syndrome::row_parity`. The loop's invariant: `x` is the parity of the first `k` bits of the part.
-use Prim.Native.Nat.{ℕ, ◌-◌, ◌%◌, ◌≤◌}
-use mathlib.Core.Path.{◌≡◌, refl, ap, ◌∙◌}
-use native.Mathlib.Nat.{le_antisymm}
-use native.Mathlib.Omega.{arith}
-use Rattle.counting.specs.Paper.Sum.{sum_below}
+use Prim.Native.Nat.{◌-◌, ◌%◌, ◌≤◌}
+use mathlib.Core.Path.{◌≡◌}
 use Rattle.counting.specs.Places.{at}
 use Rattle.syndrome.specs.Places.{ones_at}
-use Rattle.syndrome.proofs.Parity.{parity-step}
 use Rattle.syndrome.proofs.row_parity.Given as goal
 
 abbrev pub invariant-loop-k : goal.invariant-loop-k

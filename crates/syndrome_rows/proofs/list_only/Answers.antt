@@ -1,7 +1,6 @@
-use Prim.Native.Nat.{◌+◌, ◌*◌, ◌-◌, ◌≤◌}
+use Prim.Native.Nat.{◌+◌, ◌*◌}
 use mathlib.Core.Path.{◌≡◌, sym, ◌∙◌}
 use native.Mathlib.Omega.{arith}
-use Rattle.syndrome.specs.Places.{Places}
 use Rattle.syndrome.proofs.Lists.{places-none}
 use Rattle.syndrome_words.specs.Sets.{only_in}
 use Rattle.syndrome_rows.proofs.Only.{only-bit, only-past, only-word, only-fit, only_word, places-word, places-within}

@@ -1,11 +1,7 @@
 -- `syndrome_rows::list_only`. The loop's invariant: the checks in the words looked at are listed.
-use Prim.Native.Nat.{◌+◌, ◌*◌, ◌-◌, ◌≤◌}
-use mathlib.Core.Path.{◌≡◌, sym, ◌∙◌}
-use native.Mathlib.Omega.{arith}
+use Prim.Native.Nat.{◌*◌, ◌-◌, ◌≤◌}
 use Rattle.syndrome.specs.Places.{Places}
-use Rattle.syndrome.proofs.Lists.{places-none}
 use Rattle.syndrome_words.specs.Sets.{only_in}
-use Rattle.syndrome_rows.proofs.Only.{only-bit, only-past, only-word, only-fit, only_word, places-word, places-within}
 use Rattle.syndrome_rows.proofs.list_only.Given as goal
 
 abbrev pub invariant-loop-w : goal.invariant-loop-w

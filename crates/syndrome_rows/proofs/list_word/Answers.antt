@@ -1,10 +1,10 @@
-use Prim.Native.Nat.{◌+◌, ◌<◌, ◌^◌}
+use Prim.Native.Nat.{◌+◌, ◌<◌}
 use mathlib.Core.Path.{◌≡◌, ap, ◌∙◌}
 use native.Mathlib.Omega.{arith}
 use lib.Count.{count_trailing_zeros}
 use lib.ListN.{length}
 use Rattle.syndrome_rows.proofs.Lowest.{Lowest, lowest, cleared-less}
-use Rattle.syndrome_rows.proofs.Listing.{Listing, listing_none, listing_step, listing-all, listing-place, ones-long}
+use Rattle.syndrome_rows.proofs.Listing.{listing_none, listing_step, listing-all, listing-place, ones-long}
 use Rattle.syndrome_rows.proofs.list_word.Goals as goal
 
 pub loop-y-init : goal.loop-y-init

@@ -1,13 +1,11 @@
 -- `syndrome_sets::apart`. The loop's invariant: `t` counts the bits in which the first `w` words differ.
-use mathlib.Core.Path.{◌≡◌, ap, ◌∙◌}
-use Prim.Native.Nat.{ℕ, ◌-◌, ◌≤◌}
-use native.Mathlib.Omega.{arith}
+use mathlib.Core.Path.{◌≡◌}
+use Prim.Native.Nat.{◌-◌, ◌≤◌}
 use lib.Bits.{bit_xor}
 use lib.Count.{ones}
 use Rattle.counting.specs.Paper.Sum.{sum_below}
 use Rattle.counting.specs.Places.{at}
 use Rattle.syndrome_sets.specs.Counts.{word_apart}
-use Rattle.syndrome_sets.proofs.Counts.{ones_none, ones_step, words-none, words_step, word-most, sums-few, words-sets}
 use Rattle.syndrome_sets.proofs.apart.Given as goal
 
 abbrev pub invariant-loop-w : goal.invariant-loop-w

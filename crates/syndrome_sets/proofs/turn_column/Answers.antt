@@ -1,10 +1,6 @@
-use mathlib.Core.Path.{◌≡◌, sym}
-use Prim.Native.Nat.{◌+◌, ◌-◌, ◌≤◌}
+use mathlib.Core.Path.{sym}
 use native.Mathlib.Nat.{le_antisymm}
 use native.Mathlib.Omega.{arith}
-use lib.Bits.{bit_xor}
-use Rattle.counting.specs.Paper.Lists.{listed, over}
-use Rattle.counting.specs.Places.{at}
 use Rattle.counting.proofs.Writes.{over_none}
 use Rattle.syndrome_sets.proofs.Turns.{column-step}
 use Rattle.syndrome_sets.proofs.turn_column.Goals as goal

@@ -1,13 +1,9 @@
 -- `syndrome_sets::turn_column`. The loop's invariant: the first `w` words are turned over.
-use mathlib.Core.Path.{◌≡◌, sym}
+use mathlib.Core.Path.{◌≡◌}
 use Prim.Native.Nat.{◌+◌, ◌-◌, ◌≤◌}
-use native.Mathlib.Nat.{le_antisymm}
-use native.Mathlib.Omega.{arith}
 use lib.Bits.{bit_xor}
 use Rattle.counting.specs.Paper.Lists.{listed, over}
 use Rattle.counting.specs.Places.{at}
-use Rattle.counting.proofs.Writes.{over_none}
-use Rattle.syndrome_sets.proofs.Turns.{column-step}
 use Rattle.syndrome_sets.proofs.turn_column.Given as goal
 
 abbrev pub invariant-loop-w : goal.invariant-loop-w

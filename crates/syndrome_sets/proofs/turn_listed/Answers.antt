@@ -1,10 +1,7 @@
-use mathlib.Core.Path.{◌≡◌, ◌∙◌}
-use Prim.Native.Nat.{◌-◌, ◌≤◌}
+use mathlib.Core.Path.{◌∙◌}
 use native.Mathlib.Nat.{le_antisymm}
 use native.Mathlib.Omega.{arith}
-use Rattle.counting.specs.Paper.Lists.{listed, over}
 use Rattle.counting.proofs.Writes.{over-long}
-use Rattle.syndrome_sets.specs.Turns.{word_after}
 use Rattle.syndrome_sets.proofs.Turns.{listed-none, listed-step}
 use Rattle.syndrome_sets.proofs.turn_listed.Goals as goal
 

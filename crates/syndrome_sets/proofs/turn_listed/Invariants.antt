@@ -1,12 +1,8 @@
 -- `syndrome_sets::turn_listed`. The loop's invariant: the copy is turned over by the first `q` listed columns.
-use mathlib.Core.Path.{◌≡◌, ◌∙◌}
+use mathlib.Core.Path.{◌≡◌}
 use Prim.Native.Nat.{◌-◌, ◌≤◌}
-use native.Mathlib.Nat.{le_antisymm}
-use native.Mathlib.Omega.{arith}
 use Rattle.counting.specs.Paper.Lists.{listed, over}
-use Rattle.counting.proofs.Writes.{over-long}
 use Rattle.syndrome_sets.specs.Turns.{word_after}
-use Rattle.syndrome_sets.proofs.Turns.{listed-none, listed-step}
 use Rattle.syndrome_sets.proofs.turn_listed.Given as goal
 
 abbrev pub invariant-loop-q : goal.invariant-loop-q

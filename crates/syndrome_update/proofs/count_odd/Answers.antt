@@ -1,8 +1,5 @@
-use Prim.Native.Nat.{◌-◌, ◌≤◌}
-use mathlib.Core.Path.{◌≡◌}
 use native.Mathlib.Nat.{le_antisymm}
 use native.Mathlib.Omega.{arith}
-use Rattle.counting.specs.Paper.Sum.{sum_below}
 use Rattle.counting.specs.Places.{at}
 use Rattle.syndrome_update.proofs.Turns.{odd-none, odd_step, odd-most}
 use Rattle.syndrome_update.proofs.count_odd.Goals as goal

@@ -1,11 +1,8 @@
 -- `syndrome_update::count_odd`. The loop's invariant: `t` is the sum of the parities below `i`.
 use Prim.Native.Nat.{◌-◌, ◌≤◌}
 use mathlib.Core.Path.{◌≡◌}
-use native.Mathlib.Nat.{le_antisymm}
-use native.Mathlib.Omega.{arith}
 use Rattle.counting.specs.Paper.Sum.{sum_below}
 use Rattle.counting.specs.Places.{at}
-use Rattle.syndrome_update.proofs.Turns.{odd-none, odd_step, odd-most}
 use Rattle.syndrome_update.proofs.count_odd.Given as goal
 
 abbrev pub invariant-loop-i : goal.invariant-loop-i

@@ -1,10 +1,7 @@
 -- `syndrome_update::eight`. The loop's invariant: x is the number that the bits from place p + k to the eighth make.
-use mathlib.Core.Path.{◌≡◌, ap, ap₂, ◌∙◌}
-use Prim.Native.Nat.{ℕ, suc, ◌+◌, ◌-◌, ◌^◌, ◌<◌, ◌≤◌}
-use native.Mathlib.Omega.{arith}
+use mathlib.Core.Path.{◌≡◌}
+use Prim.Native.Nat.{◌+◌, ◌-◌, ◌≤◌}
 use Rattle.syndrome_update.specs.Parities.{number_from}
-use Rattle.syndrome_update.proofs.Turns.{bit_below}
-use Rattle.syndrome_update.proofs.Flips.{number-none, number_more, number-room}
 use Rattle.syndrome_update.proofs.eight.Given as goal
 
 abbrev pub invariant-loop-k : goal.invariant-loop-k

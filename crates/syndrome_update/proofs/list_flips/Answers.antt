@@ -1,8 +1,8 @@
-use Prim.Native.Nat.{◌-◌, ◌+◌, ◌≤◌}
+use Prim.Native.Nat.{◌+◌}
 use mathlib.Core.Path.{sym, ◌∙◌}
 use native.Mathlib.Omega.{arith}
 use Rattle.counting.specs.Places.{at}
-use Rattle.syndrome_update.specs.Parities.{differing, FlipsListed}
+use Rattle.syndrome_update.specs.Parities.{differing}
 use Rattle.syndrome_update.proofs.Turns.{bits-fewer}
 use Rattle.syndrome_update.proofs.Flips.{flips-none, flips-join}
 use Rattle.syndrome_update.proofs.list_flips.Goals as goal

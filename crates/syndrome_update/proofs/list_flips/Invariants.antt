@@ -1,11 +1,7 @@
 -- `syndrome_update::list_flips`. The loop's invariant: the first `t` of `places` are the places below `j` at which the words differ.
-use Prim.Native.Nat.{◌-◌, ◌+◌, ◌≤◌}
-use mathlib.Core.Path.{sym, ◌∙◌}
-use native.Mathlib.Omega.{arith}
+use Prim.Native.Nat.{◌-◌, ◌≤◌}
 use Rattle.counting.specs.Places.{at}
 use Rattle.syndrome_update.specs.Parities.{differing, FlipsListed}
-use Rattle.syndrome_update.proofs.Turns.{bits-fewer}
-use Rattle.syndrome_update.proofs.Flips.{flips-none, flips-join}
 use Rattle.syndrome_update.proofs.list_flips.Given as goal
 
 abbrev pub invariant-loop-j : goal.invariant-loop-j

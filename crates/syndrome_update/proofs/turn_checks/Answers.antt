@@ -1,8 +1,5 @@
-use Prim.Native.Nat.{◌-◌, ◌≤◌}
 use native.Mathlib.Nat.{le_antisymm}
 use native.Mathlib.Omega.{arith}
-use Rattle.counting.specs.Places.{among}
-use Rattle.syndrome_update.specs.Parities.{ParitiesTurned}
 use Rattle.syndrome_update.proofs.Turns.{checks-none, checks-step}
 use Rattle.syndrome_update.proofs.turn_checks.Goals as goal
 

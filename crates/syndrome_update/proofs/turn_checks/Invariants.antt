@@ -1,10 +1,7 @@
 -- `syndrome_update::turn_checks`. The loop's invariant: the parities of the first `k` rows of the part are turned over.
 use Prim.Native.Nat.{◌-◌, ◌≤◌}
-use native.Mathlib.Nat.{le_antisymm}
-use native.Mathlib.Omega.{arith}
 use Rattle.counting.specs.Places.{among}
 use Rattle.syndrome_update.specs.Parities.{ParitiesTurned}
-use Rattle.syndrome_update.proofs.Turns.{checks-none, checks-step}
 use Rattle.syndrome_update.proofs.turn_checks.Given as goal
 
 abbrev pub invariant-loop-k : goal.invariant-loop-k

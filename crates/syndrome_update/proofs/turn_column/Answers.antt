@@ -1,7 +1,6 @@
 -- `syndrome_update::turn_column`: the rows of the column stand between its starting place and the next.
 use native.Mathlib.Omega.{arith}
 use Rattle.syndrome_update.proofs.Turns.{column-turned}
-use borrow.Author.Rules.{rules}
 use Rattle.syndrome_update.proofs.turn_column.Goals as goal
 
 pub overflow_cast-from : goal.overflow_cast-from

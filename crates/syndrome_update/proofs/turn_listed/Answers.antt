@@ -1,7 +1,5 @@
-use Prim.Native.Nat.{◌-◌, ◌≤◌}
 use native.Mathlib.Nat.{le_antisymm}
 use native.Mathlib.Omega.{arith}
-use Rattle.syndrome_update.specs.Parities.{ParitiesTurned, listed_rows}
 use Rattle.syndrome_update.proofs.Turns.{turned-bits, listed-none, listed-step}
 use Rattle.syndrome_update.proofs.turn_listed.Goals as goal
 

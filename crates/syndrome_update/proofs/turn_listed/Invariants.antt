@@ -1,9 +1,6 @@
 -- `syndrome_update::turn_listed`. The loop's invariant: the parities are turned over for the rows of the first `q` listed columns.
 use Prim.Native.Nat.{◌-◌, ◌≤◌}
-use native.Mathlib.Nat.{le_antisymm}
-use native.Mathlib.Omega.{arith}
 use Rattle.syndrome_update.specs.Parities.{ParitiesTurned, listed_rows}
-use Rattle.syndrome_update.proofs.Turns.{turned-bits, listed-none, listed-step}
 use Rattle.syndrome_update.proofs.turn_listed.Given as goal
 
 abbrev pub invariant-loop-q : goal.invariant-loop-q

@@ -1,0 +1,10 @@
+-- `ffi::mlgd_index` meets its contract: the code of what the call says, and the index that it writes. Assumes nothing.
+use mathlib.Core.Path.{ap, ◌∙◌}
+use Rattle.answers.specs.Paper.Answers.{Verdict, after, acceptance}
+use Rattle.ffi_codes.specs.Codes.{code_of}
+use Rattle.ffi.proofs.mlgd_index.Goals as goal
+
+pub returns : goal.returns
+returns c =
+    let r = c.index-a.ensures in
+    record { answer = c.checked_code.ensures ∙ ap (λ (v : Verdict). code_of (after v acceptance)) r.says; index = r.index; }
