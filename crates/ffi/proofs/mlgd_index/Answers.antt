@@ -7,4 +7,4 @@ use Rattle.ffi.proofs.mlgd_index.Goals as goal
 pub returns : goal.returns
 returns c =
     let r = c.index-a.ensures in
-    record { answer = c.checked_code.ensures ∙ ap (λ (v : Verdict). code_of (after v acceptance)) r.says; index = r.index; }
+    record { answer = c.checked_code.ensures ∙ ap (λ (v : Verdict). code_of (after v acceptance)) r.says; index = r.index }

@@ -7,4 +7,4 @@ use Rattle.ffi.proofs.mlgd_list_to_sheet.Goals as goal
 pub returns : goal.returns
 returns c =
     let r = c.sheet_from_list-a.ensures in
-    record { answer = c.stored_code.ensures ∙ ap (λ (s : Said). code_of s) r.says; sheet = r.sheet; }
+    record { answer = c.stored_code.ensures ∙ ap (λ (s : Said). code_of s) r.says; sheet = r.sheet }

@@ -14,4 +14,4 @@ answer_code-requires c =
 
 pub returns : goal.returns
 returns c =
-    let r = c.one_step-a.ensures.answer in record { answer = c.answer_code.ensures ∙ ap code_of r.says; word = r.word; }
+    let r = c.one_step-a.ensures.answer in record { answer = c.answer_code.ensures ∙ ap code_of r.says; word = r.word }

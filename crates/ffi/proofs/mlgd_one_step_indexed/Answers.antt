@@ -9,4 +9,4 @@ answer_code-requires c = subst Small (sym c.one_step_indexed-a.ensures.answer.sa
 
 pub returns : goal.returns
 returns c =
-    let r = c.one_step_indexed-a.ensures.answer in record { answer = c.answer_code.ensures ∙ ap code_of r.says; word = r.word; }
+    let r = c.one_step_indexed-a.ensures.answer in record { answer = c.answer_code.ensures ∙ ap code_of r.says; word = r.word }

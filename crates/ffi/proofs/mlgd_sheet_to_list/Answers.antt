@@ -9,4 +9,4 @@ pub returns : goal.returns
 unfolding to_list_of
 returns c =
     let r = c.sheet_to_list-a.ensures in
-    record { answer = c.checked_code.ensures ∙ ap (λ (v : Verdict). code_of (after v acceptance)) r.says; sizes = r.sizes; list = r.list; }
+    record { answer = c.checked_code.ensures ∙ ap (λ (v : Verdict). code_of (after v acceptance)) r.says; sizes = r.sizes; list = r.list }

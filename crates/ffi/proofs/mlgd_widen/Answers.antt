@@ -7,4 +7,4 @@ use Rattle.ffi.proofs.mlgd_widen.Goals as goal
 pub returns : goal.returns
 returns c =
     let r = c.widen-a.ensures in
-    record { answer = c.checked_code.ensures ∙ ap (λ (v : Verdict). code_of (after v acceptance)) r.answer; levels = r.levels; }
+    record { answer = c.checked_code.ensures ∙ ap (λ (v : Verdict). code_of (after v acceptance)) r.answer; levels = r.levels }

@@ -15,4 +15,4 @@ returns c =
     (answered-stands (face_matrix a.n a.m a.rho a.gamma a.list.now) a.list.now (face_setting a.bits a.limit a.kind a.step)
     (setting_of t.setting_by-setting.result) t.setting_by-setting.ensures d.decode-answer.ensures) c.result.ensures in
     face-promised a.n a.m a.rho a.gamma a.list.now (face_setting a.bits a.limit a.kind a.step) _ _ _ _ _ _ _ _ f) in
-    record { answer = p.0; iterative = p.1.0; flipping_rule = p.1.1.0; ample_limit = p.1.1.1; }
+    record { answer = p.0; iterative = p.1.0; flipping_rule = p.1.1.0; ample_limit = p.1.1.1 }

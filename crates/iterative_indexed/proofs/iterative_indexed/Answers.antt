@@ -31,7 +31,7 @@ returns-in-Accepted c =
     let t = r in
     let s = c in
     let e = r.iterative_own.ensures in
-    record { answer = answered-own (lent) s.args.index.now _ _ _ _ _ _ _ (both).1 e; alike = λ own. e; }
+    record { answer = answered-own (lent) s.args.index.now _ _ _ _ _ _ _ (both).1 e; alike = λ own. e }
 
 pub returns-in-Refused : goal.returns-in-Refused
 returns-in-Refused c =
@@ -40,4 +40,4 @@ returns-in-Refused c =
     let s = c in
     let e = refused-either (lent) s.args.index.now _ _ _ _ (refusal_number c.in-Refused.f) (refusal_place c.in-Refused.f) _
     (sym k.check_indexed.ensures ∙ ap verdict_of c.in-Refused.is) refl in
-    record { answer = e; alike = λ own. answered-alike (lent) s.args.index.now _ _ _ _ _ _ _ own e; }
+    record { answer = e; alike = λ own. answered-alike (lent) s.args.index.now _ _ _ _ _ _ _ own e }

@@ -16,7 +16,7 @@ pub retally-requires : goal.retally-requires
 retally-requires c =
     let z = c in
     let H = matrix_of z.args.shape z.args.list.now in
-    record { accepted = (z.requires.run_lent.matrix, z.requires.index_value.0); word = (z.requires.run_lent.word, moved_word H _ _ _ _ _ _ _ _ c.update.ensures, z.requires.index_value.1); }
+    record { accepted = (z.requires.run_lent.matrix, z.requires.index_value.0); word = (z.requires.run_lent.word, moved_word H _ _ _ _ _ _ _ _ c.update.ensures, z.requires.index_value.1) }
 
 pub returns : goal.returns
 returns c =

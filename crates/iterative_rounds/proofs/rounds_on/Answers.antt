@@ -9,7 +9,7 @@ pub retally-failing-requires : goal.retally-failing-requires
 retally-failing-requires c =
     let z = c in
     let H = matrix_of z.args.shape z.args.list.now in
-    record { accepted = (z.requires.0.matrix, z.requires.1); word = (zero_word H, z.requires.0.word, zero-parities H); }
+    record { accepted = (z.requires.0.matrix, z.requires.1); word = (zero_word H, z.requires.0.word, zero-parities H) }
 
 pub loop-k-init : goal.loop-k-init
 loop-k-init c =
@@ -27,7 +27,7 @@ pub round-failing-requires : goal.round-failing-requires
 round-failing-requires c =
     let l = c in
     let z = l in
-    record { run_lent = going-lent _ _ _ _ _ z.requires.0 _ _ _ _ _ l.loop-k.invariant.0; index_value = (z.requires.1, l.loop-k.invariant.1, z.requires.2); }
+    record { run_lent = going-lent _ _ _ _ _ z.requires.0 _ _ _ _ _ l.loop-k.invariant.0; index_value = (z.requires.1, l.loop-k.invariant.1, z.requires.2) }
 
 pub overflow_add-k : goal.overflow_add-k
 overflow_add-k c = omega (arith, c.ranges.limit)

@@ -22,12 +22,15 @@ retally-requires c =
     let s = c in
     let copied = c.copy.ensures in
     let u = c.update in
-    let p = s.requires.run_lent.0 in record { accepted = (p.matrix, s.requires.run_lent.1, s.requires.set_parities.3, s.requires.run_lent.3); word = (
+    let p = s.requires.run_lent.0 in record {
+      accepted = (p.matrix, s.requires.run_lent.1, s.requires.set_parities.3, s.requires.run_lent.3);
+      word = (
         copied-word (lent) p.matrix s.args.bits.now s.args.before.now _ copied p.word,
         moved_word (lent) _ _ _ _ _ _ _ _ u.ensures,
         copied-parities (lent) p.matrix s.args.bits.now s.args.before.now _ copied s.args.parity.now s.requires.set_parities.0,
         s.requires.set_parities.1,
-      ); }
+      );
+    }
 
 pub returns : goal.returns
 returns c =

@@ -11,7 +11,7 @@ pub retally-failing-requires : goal.retally-failing-requires
 retally-failing-requires c =
     let s = c in
     let H = matrix_of s.args.shape s.args.list.now in
-    record { accepted = (s.requires.0.matrix, s.requires.1, refl, s.requires.3); word = (zero_word H, s.requires.0.word, zero-parities H, zero-votes H); }
+    record { accepted = (s.requires.0.matrix, s.requires.1, refl, s.requires.3); word = (zero_word H, s.requires.0.word, zero-parities H, zero-votes H) }
 
 pub loop-k-init : goal.loop-k-init
 loop-k-init c =
@@ -31,7 +31,7 @@ round-failing-requires c =
     let l = c in
     let s = l in
     let i = l.loop-k.invariant in
-    record { run_lent = (going-lent _ _ _ _ _ s.requires.0 _ _ _ _ _ i.0, s.requires.1, s.requires.2, s.requires.3); set_parities = (i.1.parities, i.1.votes, i.2, i.3); }
+    record { run_lent = (going-lent _ _ _ _ _ s.requires.0 _ _ _ _ _ i.0, s.requires.1, s.requires.2, s.requires.3); set_parities = (i.1.parities, i.1.votes, i.2, i.3) }
 
 pub overflow_add-k : goal.overflow_add-k
 overflow_add-k c = omega (arith, c.ranges.limit)

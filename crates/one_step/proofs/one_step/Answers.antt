@@ -10,4 +10,4 @@ returns c =
     let a = c.args in
     let r = c.answered in
     let H : Matrix = matrix_of a.shape a.list.now in
-    record { answer = r.ensures; flipping_rule = answered-rule H a.received.now a.word.now r.new.word (said_of r.result) r.ensures; }
+    record { answer = r.ensures; flipping_rule = answered-rule H a.received.now a.word.now r.new.word (said_of r.result) r.ensures }

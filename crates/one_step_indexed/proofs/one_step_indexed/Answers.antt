@@ -29,8 +29,11 @@ returns-in-Accepted c =
     let r = c in
     let t = r in
     let s = c in
-    let e = r.on_own.ensures in record { answer = answered-own (lent) s.args.index.now s.args.received.now s.args.word.now r.on_own.new.word
-          (said_of r.on_own.result) (both).1 e; alike = λ own. e; }
+    let e = r.on_own.ensures in record {
+      answer = answered-own (lent) s.args.index.now s.args.received.now s.args.word.now r.on_own.new.word
+          (said_of r.on_own.result) (both).1 e;
+      alike = λ own. e;
+    }
 
 pub returns-in-Refused : goal.returns-in-Refused
 returns-in-Refused c =
@@ -39,4 +42,4 @@ returns-in-Refused c =
     let s = c in
     let e = refused-either (lent) s.args.index.now s.args.received.now s.args.word.now (refusal_number c.in-Refused.f) (refusal_place c.in-Refused.f) _
     (sym k.check_indexed.ensures ∙ ap verdict_of c.in-Refused.is) refl in
-    record { answer = e; alike = λ own. answered-alike (lent) s.args.index.now s.args.received.now s.args.word.now s.args.word.now _ own e; }
+    record { answer = e; alike = λ own. answered-alike (lent) s.args.index.now s.args.received.now s.args.word.now s.args.word.now _ own e }
