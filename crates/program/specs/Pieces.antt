@@ -5,7 +5,8 @@
 --   Replies a b                         == from a on, replies to pieces of input lead to b
 --   RunDone a b                         == they do, and b wants nothing more
 --   BrokenPiece a l l' x x' ..          == an error came as the piece for a was read or its reply printed: what is left of the buffers
---   BrokenRun a l' x' input' out'       == from a on, replies lead to where a piece broke off: what is left of the buffers
+--   Pieces a l x input out b l' x' ..   == pieces lead from a to b, and the buffers from l, x, input, out to l', x', input', out'
+--   BrokenRun a l l' x x' ..            == from a on, pieces lead to one that broke off: what is left of the buffers
 -- Assumes nothing.
 use Rattle.std.specs.Prelude.{ℕ, zero, suc, ◌≤◌, ◌≡◌, List, [], ◌++◌, length, take, drop}
 use Rattle.program_ends.specs.Stages.{Awaited, wanted, reply_to}
@@ -48,14 +49,18 @@ pub data BrokenPiece (a : Awaited) (l l' x x' input input' out out' : List ℕ) 
   not_read : drop (wanted a) input' ≡ drop (wanted a) input → l' ≡ l → x' ≡ x → out' ≡ out → BrokenPiece a l l' x x' input input' out out'
   not_printed : {a' : Awaited} {w e : ℕ} → Piece a l l' x x' input input' a' w e out out' → BrokenPiece a l l' x x' input input' out out'
 
--- the buffers that the broken piece was lent were left so by the replies before it
-pub record BrokenRun (a : Awaited) (l' x' input' out' : List ℕ) : Type 0 where
+-- pieces, one after the other: each finds the buffers as the one before it left them
+pub data Pieces (a : Awaited) (l x input out : List ℕ) : Awaited → List ℕ → List ℕ → List ℕ → List ℕ → Type 0 where
+  no_piece : Pieces a l x input out a l x input out
+  piece_more : {b b' : Awaited} {l₁ l₂ x₁ x₂ input₁ input₂ out₁ out₂ : List ℕ} {w e : ℕ} → Pieces a l x input out b l₁ x₁ input₁ out₁
+      → Piece b l₁ l₂ x₁ x₂ input₁ input₂ b' w e out₁ out₂ → Pieces a l x input out b' l₂ x₂ input₂ out₂
+
+-- whole pieces, and then the broken one, which finds the buffers as they left them
+pub record BrokenRun (a : Awaited) (l l' x x' input input' out out' : List ℕ) : Type 0 where
   pub reached : Awaited
-  pub want : ℕ
   pub list : List ℕ
   pub tables : List ℕ
-  pub input : List ℕ
-  pub out : List ℕ
-  pub replies : Replies a reached
-  pub lent : PieceLent reached want list tables input out
-  pub broken : BrokenPiece reached list l' tables x' input input' out out'
+  pub bytes : List ℕ
+  pub text : List ℕ
+  pub whole : Pieces a l x input out reached list tables bytes text
+  pub broken : BrokenPiece reached list l' tables x' bytes input' text out'
