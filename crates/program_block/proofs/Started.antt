@@ -98,7 +98,7 @@ module _ {H : Matrix} {S : Setting} {bs w : List ℕ} (whole : Whole H S bs w) {
   block_refused l = answered-refused H S bs r w (block-refuses H.n bs whole.bytes r place_in l)
 
   -- every sample is finite
-  module _ (all : H.n ≤ r) (long_bits : length z ≡ 1023) (Long-Kept : length x ≡ 1023) where
+  module _ (all : H.n ≤ r) (long_bits : length z ≡ 1023) (long_kept : length x ≡ 1023) where
     few : length (samples_in bs) ≤ 1023
     few = omega (arith, samples-n H.n bs whole.bytes, whole.decodable.matrix.sizes.n_most)
 
@@ -115,7 +115,7 @@ module _ {H : Matrix} {S : Setting} {bs w : List ℕ} (whole : Whole H S bs w) {
         }
 
     started : Started S (samples_in bs) unwritten (opened S (samples_in bs)) z z' x x'
-    started = placed-started S (samples_in bs) few z z' x x' o o' (t.placed all) long_bits Long-Kept
+    started = placed-started S (samples_in bs) few z z' x x' o o' (t.placed all) long_bits long_kept
 
     module _ {L : ℕ} (e : L ≡ largest S.bits) where
       -- the arrays may be lent to the rounds

@@ -54,14 +54,14 @@ slice_bounds-run-count c =
     let lent : Matrix = matrix_of c.args.shape c.args.list.now in
     let by : Setting = setting_of c.args.setting in
     let front : 2050 ≤ length c.args.tables.now = omega (arith, tables-room (lent) (length c.args.tables.now) (omega (arith, ap length c.requires.1, tables-long (lent) (by)))) in
-    front
+    omega (arith, front, c.requires.0.decodable.matrix.sizes.n_most)
 
 pub slice_bounds-run-start : goal.slice_bounds-run-start
 slice_bounds-run-start c =
     let lent : Matrix = matrix_of c.args.shape c.args.list.now in
     let by : Setting = setting_of c.args.setting in
     let front : 2050 ≤ length c.args.tables.now = omega (arith, tables-room (lent) (length c.args.tables.now) (omega (arith, ap length c.requires.1, tables-long (lent) (by)))) in
-    front
+    omega (arith, front, c.requires.0.decodable.matrix.sizes.n_most)
 
 pub run-stop-requires : goal.run-stop-requires
 run-stop-requires c =
