@@ -3,19 +3,16 @@
 --   returns          == every level that it writes can be taken back: `Returns`
 --   step-as-before   == a step with such a record says and leaves what it did: `StepAsBefore`
 --   step-returns     == and its levels can be taken back: `StepReturns`
---   over-whole       == a list over a buffer just as long is that list
---   brought-over     == so are old levels brought over into such a buffer
+--   brought-over     == old levels brought over into a buffer just as long are those levels
 --   goes_on          == a session opened before goes on: `GoesOn`
 -- Assumes nothing.
 use mathlib.Core.Path.{◌≡◌, ap, ap₂, ◌∙◌}
 use mathlib.Core.List.{List}
 use Prim.Native.Nat.{ℕ, ◌≤◌}
 use native.Mathlib.Omega.{arith}
-use lib.IntN.{ℤ, pos}
+use lib.IntN.{ℤ}
 use lib.ListN.{length}
-use lib.Seq.{ext_get_or}
 use Rattle.counting.specs.Paper.Lists.{over}
-use Rattle.counting.proofs.Writes.{length_over, get_or-over-new}
 use Rattle.answers.specs.Paper.Answers.{Verdict, written}
 use Rattle.matrix.specs.Paper.Code.{Matrix}
 use Rattle.quantiser_levels.specs.Paper.Samples.{Setting}
@@ -26,6 +23,7 @@ use Rattle.session_asking.specs.Paper.Asked.{Held, lent}
 use Rattle.session.specs.Paper.Steps.{step_of}
 use Rattle.eight_bits.specs.Paper.Claims.{AsBefore, StepAsBefore, GoesOn, Returns, StepReturns}
 use Rattle.eight_bits.proofs.SettingWidths.{setting-eight}
+use Rattle.eight_bits.proofs.WholeBuffers.{over-whole}
 use Rattle.eight_bits.proofs.Calls.{quantiser-eight, iterative-eight, indexed-eight, open-eight, program-eight, step-eight}
 use Rattle.eight_bits.proofs.FaceBefore.{face-eight}
 use Rattle.eight_bits.proofs.TakenBack.{quantiser-back, iterative-back, indexed-back, open-back, face-back, step_back}
@@ -68,13 +66,7 @@ module _ (H : Matrix) (w : List ℕ) (o : List ℤ) (h : Held) (eight : h.rec.bi
   pub step-returns : StepReturns H w o h
   step-returns = step_back H w o h eight
 
--- a list over a buffer just as long is that list
-over-whole : (new old : List ℤ) → length old ≡ length new → over new old ≡ new
-over-whole new old e =
-    let long : length (over new old) ≡ length new = omega (arith, length_over new old (omega arith)) in
-    ext_get_or (pos 0) (over new old) new long (λ i l. get_or-over-new new old i (pos 0) (omega (arith, long)))
-
--- so are old levels brought over into such a buffer
+-- old levels brought over into a buffer just as long are those levels
 brought-over : (old ls ls' : List ℤ) (v : Verdict) → length ls ≡ length old → Widened old v ls ls' → ls' ≡ old
 brought-over old ls ls' v e b =
     b.levels ∙ ap (λ (u : Verdict). written u old ls) (widen-accepted old (length ls) (omega arith)) ∙ over-whole old ls e

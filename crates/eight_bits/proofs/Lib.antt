@@ -4,4 +4,5 @@ pub mod Calls
 pub mod Face
 pub mod FaceBefore
 pub mod TakenBack
+pub mod WholeBuffers
 pub mod EightBits

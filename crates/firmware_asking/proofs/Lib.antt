@@ -1,2 +1,3 @@
+pub mod ZeroStep
 pub mod Settings
 pub mod Questions

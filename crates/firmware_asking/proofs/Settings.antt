@@ -6,7 +6,7 @@ use mathlib.Core.Path.{◌≡◌, refl, sym, ap, subst, ◌∙◌}
 use mathlib.Core.Bool.{Bool, true, false, cond, ◌&&◌}
 use Prim.Native.Nat.{ℕ}
 use lib.Dec.{T, leb}
-use lib.Ieee.{Float, binary32, of_bits, of_fields, odd, le}
+use lib.Ieee.{Float, binary32, of_bits}
 use lib.Ieee.Scale.{finite}
 use Rattle.counting.proofs.Searches.{cases, never}
 use Rattle.quantiser_levels.specs.Paper.Samples.{Setting, ranges_fit, step_fits, setting_fits}
@@ -14,6 +14,7 @@ use Rattle.quantiser_levels.proofs.Floats.{step-finite}
 use Rattle.quantiser_settings.specs.Numbers.{setting_by}
 use Rattle.ffi_codes.specs.Settings.{StandsFor}
 use Rattle.firmware_asking.specs.Paper.Asked.{face_setting}
+use Rattle.firmware_asking.proofs.ZeroStep.{zero-unfit}
 
 -- a test that fails makes a conjunction of three fail
 none_of : (a b : Bool) → (a && (b && false)) ≡ false
@@ -26,11 +27,7 @@ unfit-step : (S : Setting) → step_fits S.step ≡ false → setting_fits S ≡
 unfolding setting_fits
 unfit-step S e = rw e (none_of (ranges_fit S.bits S.limit) (leb S.kind 1))
 
--- so is 0, and a float that is not finite
-zero-unfit : step_fits (of_bits binary32 0) ≡ false
-unfolding step_fits le of_bits of_fields odd
-zero-unfit = refl
-
+-- so is a float that is not finite
 not-finite-unfit : (x : Float) → finite x ≡ false → step_fits x ≡ false
 not-finite-unfit x n = cases (step_fits x) (λ y. absurd (subst T n (step-finite x y))) (λ e. e)
 
