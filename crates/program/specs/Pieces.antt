@@ -44,7 +44,7 @@ pub record RunDone (a b : Awaited) : Type 0 where
   pub replies : Replies a b
   pub done : wanted b ≡ 0
 
--- where nothing was read, all stays but the front of the input; where nothing was printed, the buffers are as the reply left them
+-- where reading failed, all stays but the front of the input; where printing failed, the buffers are as a whole piece leaves them
 pub data BrokenPiece (a : Awaited) (l l' x x' input input' out out' : List ℕ) : Type 0 where
   not_read : drop (wanted a) input' ≡ drop (wanted a) input → l' ≡ l → x' ≡ x → out' ≡ out → BrokenPiece a l l' x x' input input' out out'
   not_printed : {a' : Awaited} {w e : ℕ} → Piece a l l' x x' input input' a' w e out out' → BrokenPiece a l l' x x' input input' out out'
