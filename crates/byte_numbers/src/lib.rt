@@ -2,7 +2,7 @@
 // Rests on `counting`. Document 01: "Worked by hand", the paragraph on the program. Document 02: cards 3, 5 and 7.
 #![tactic(auto)]
 
-ghost use Rattle.std.specs.Prelude.{◌+◌, ◌/◌, ◌≤◌, ◌<◌, ◌≡◌, length};
+ghost use Rattle.std.specs.Prelude.{◌+◌, ◌/◌, ◌≤◌, ◌<◌, ◌≡◌, length, MatchOption};
 ghost use Rattle.std.specs.Float.{binary32};
 ghost use Rattle.std.specs.Float.Ieee.{of_bits};
 ghost use Rattle.std.specs.Float.Ieee.Scale.{finite};
@@ -15,7 +15,7 @@ ghost use Rattle.byte_numbers.specs.Floats.{Sampled};
 pub fn wide(b: u8) -> u16
     ensures { (result ≡ b) × (result < 256) }
 {
-    b as u16
+    u16::from(b)
 }
 
 // The 16-bit number at byte p. Only this repository's crates call it, where the bytes have one.
@@ -23,25 +23,15 @@ pub fn number16(bytes: &[u8], p: usize) -> u16
     requires { p + 1 < length bytes.now }
     ensures { result ≡ number16 bytes.now p }
 {
-    wide(bytes[p]) + 256 * wide(bytes[p + 1])
+    u16::from_le_bytes([bytes[p], bytes[p + 1]])
 }
 
-// A byte as a number of 32 bits.
-fn wider(b: u8) -> u32
-    ensures { (result ≡ b) × (result < 256) }
-{
-    b as u32
-}
-
-// The 32-bit number at byte p, of its four bytes, so that the compiled code is one load. Only this repository's crates call it, where the bytes have one.
+// The 32-bit number at byte p: compiled, that is one load. Only this repository's crates call it, where the bytes have one.
 pub fn number32(bytes: &[u8], p: usize) -> u32
     requires { p + 3 < length bytes.now }
     ensures { result ≡ number32 bytes.now p }
 {
-    wider(bytes[p])
-        + 256 * wider(bytes[p + 1])
-        + 65536 * wider(bytes[p + 2])
-        + 16777216 * wider(bytes[p + 3])
+    u32::from_le_bytes([bytes[p], bytes[p + 1], bytes[p + 2], bytes[p + 3]])
 }
 
 // A 16-bit number at byte p, low byte first. Only this repository's crates call it, with room for it.
@@ -49,8 +39,7 @@ pub fn put16(x: u16, p: usize, bytes: &mut [u8])
     requires { p + 1 < length bytes.old }
     ensures { bytes.new ≡ sets bytes.old p (bytes16 x) }
 {
-    bytes[p] = (x % 256) as u8;
-    bytes[p + 1] = (x / 256) as u8;
+    bytes[p..p + 2].copy_from_slice(&x.to_le_bytes());
 }
 
 // The 16-bit numbers that the bytes are, at the front of an array. Only this repository's crates call it, with room for them.
@@ -58,11 +47,8 @@ pub fn entries(bytes: &[u8], list: &mut [u16])
     requires { length bytes.now / 2 ≤ length list.old }
     ensures { list.new ≡ over (entries_in bytes.now) list.old }
 {
-    let count = bytes.len() / 2;
-    let mut i = 0;
-    while i < count {
+    for i in 0..bytes.len() / 2 {
         list[i] = number16(bytes, 2 * i);
-        i += 1;
     }
 }
 
@@ -73,21 +59,18 @@ pub fn finite_pattern(p: u32) -> bool
     p % 0x8000_0000 / 0x80_0000 != 255
 }
 
-// The floats that the bytes are, up to the first that is not finite. Answers its place, or how many there are.
+// The floats that the bytes are, up to the first that is not finite, whose place it answers if there is one.
 // Only this repository's crates call it, with room for them.
-pub fn samples(bytes: &[u8], xs: &mut [f32]) -> usize
+pub fn samples(bytes: &[u8], xs: &mut [f32]) -> Option<usize>
     requires { length bytes.now / 4 ≤ length xs.old }
-    ensures { Sampled bytes.now xs.old xs.new result }
+    ensures { MatchOption result (Sampled bytes.now xs.old xs.new (length bytes.now / 4)) (λ r. Sampled bytes.now xs.old xs.new r × (r < length bytes.now / 4)) }
 {
-    let count = bytes.len() / 4;
-    let mut i = 0;
-    while i < count {
+    for i in 0..bytes.len() / 4 {
         let p = number32(bytes, 4 * i);
         if !finite_pattern(p) {
-            return i;
+            return Some(i);
         }
         xs[i] = f32::from_bits(p);
-        i += 1;
     }
-    i
+    None
 }

@@ -12,3 +12,4 @@ pub mod Bits
 pub mod Decisions
 pub mod Writes
 pub mod Parts
+pub mod Loops

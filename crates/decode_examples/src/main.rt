@@ -1,4 +1,5 @@
 // The program on the example block set: its input is packed from examples/, its output is the reference decoder's.
+// A crate of its own with these lines of `decode`, since a program has one input and one output to be run with.
 #![tactic(auto)]
 
 use std::io;

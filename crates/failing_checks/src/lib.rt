@@ -10,7 +10,7 @@ ghost use Rattle.matrix.specs.Paper.PlainCheck.{Accepted};
 ghost use Rattle.matrix.specs.Paper.Shapes.{matrix_of};
 ghost use Rattle.syndrome.specs.Paper.Failing.{failing_of};
 
-use answers::{Checked, Counted};
+use answers::Refusal;
 use matrix_check::{Shape, check};
 use packed_word::unpack;
 use syndrome::{ask_word, failing_count};
@@ -27,25 +27,20 @@ fn count(shape: Shape, list: &[u16], received: &[u8]) -> u16
 }
 
 // What is asked of the received word once the matrix is accepted, then its failing checks. Nothing is written.
-fn failing_accepted(shape: Shape, list: &[u16], received: &[u8]) -> Counted
+fn failing_accepted(shape: Shape, list: &[u16], received: &[u8]) -> Result<u16, Refusal>
     requires { Accepted (matrix_of shape list.now) }
     ensures { counted_of result ≡ failing_of (matrix_of shape list.now) received.now }
 {
     let n = shape.n as usize;
     let need = (n + 7) / 8;
-    let asked = ask_word(n, received, need, n);
-    match asked {
-        Checked::Accepted => Counted::Failing(count(shape, list, received)),
-        Checked::Refused(f) => Counted::Refused(f),
-    }
+    ask_word(n, received, need, n)?;
+    Ok(count(shape, list, received))
 }
 
 // How many checks of a received word fail. No input needs to be looked at before.
-pub fn failing(shape: Shape, list: &[u16], received: &[u8]) -> Counted
+pub fn failing(shape: Shape, list: &[u16], received: &[u8]) -> Result<u16, Refusal>
     ensures { counted_of result ≡ failing_of (matrix_of shape list.now) received.now }
 {
-    match check(shape, list) {
-        Checked::Accepted => failing_accepted(shape, list, received),
-        Checked::Refused(f) => Counted::Refused(f),
-    }
+    check(shape, list)?;
+    failing_accepted(shape, list, received)
 }

@@ -14,10 +14,12 @@ use lib.IntN.{ℤ}
 use lib.Ieee.{Float}
 use lib.ListN.{length}
 use borrow.Author.Tests.{eq-eqb, ne_eqb}
+use Rattle.std.proofs.Common.{Result}
+use Rattle.answers.specs.declared.Report.{Report}
+use Rattle.answers.specs.declared.Refusal.{Refusal}
 use Rattle.counting.proofs.Searches.{cases}
 use Rattle.answers.specs.Paper.Answers.{Verdict, accepted, refused, Said, and_then}
 use Rattle.answers.specs.Paper.Enums.{said_of}
-use Rattle.answers.specs.declared.Answer.{Answer}
 use Rattle.packed_word.specs.Paper.Packed.{bit_at}
 use Rattle.matrix.specs.Paper.Code.{Matrix}
 use Rattle.matrix.specs.Paper.Check.{check_of}
@@ -89,7 +91,7 @@ open-alike H S T st xs h =
     refused-open-keeps H T xs h f.0 f.1 v_t ∙ sym (refused-open-keeps H S xs h f.0 f.1 v_s))
 
 -- what is left, by what a turn says and leaves
-pub called : (l : Left) (a : Answer) (s : Session) (r : ℕ) (cells cells' word' : List ℕ) (levels' : List ℤ) → Leaves l a s word' levels'
+pub called : (l : Left) (a : Result Report Refusal) (s : Session) (r : ℕ) (cells cells' word' : List ℕ) (levels' : List ℤ) → Leaves l a s word' levels'
     → r ≡ code_of (said_of a) → cells' ≡ written_by (said_of a) (cells_of (record_of s)) cells → CalledAs l r cells cells' word' levels'
 called l a s r cells cells' word' levels' v e c =
     record {

@@ -99,7 +99,7 @@ pub fn mlgd_widen(old: &[Old], levels: &mut [Cell]) -> u64
     checked_code(a)
 }
 
-// And taken back.
+// And taken back. Two functions, since both are exported by name, with types of their own.
 pub fn mlgd_narrow(levels: &[Cell], old: &mut [Old]) -> u64
     ensures answer { result ≡ code_of (after (narrow_verdict levels.now (length old.old)) acceptance) }
     ensures old { old.new ≡ written (narrow_verdict levels.now (length old.old)) levels.now old.old }

@@ -13,7 +13,6 @@ ghost use Rattle.majority_logic.specs.Paper.OneStep.{one_step_report, one_step_w
 ghost use Rattle.one_step_core.specs.Stepped.{VoteLent};
 ghost use Rattle.ffi_codes.specs.Codes.{code_of};
 
-use answers::Answer;
 use ffi_codes::answer_code;
 use matrix_check::Shape;
 
@@ -33,7 +32,7 @@ pub fn mlgd_one_step_accepted(
 {
     let shape = Shape { n, m, rho, gamma };
     let p = one_step::one_step_accepted(shape, list, received, word);
-    answer_code(Answer::Done(p))
+    answer_code(Ok(p))
 }
 
 // The replay of a lent index against a matrix whose rows are in order: 1 where it is the matrix's own, else 0. Only the benchmark calls it.

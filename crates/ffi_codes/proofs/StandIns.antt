@@ -1,10 +1,9 @@
 -- The program's setting for each kind of step stands for the lent one.
---   other-kind                   == a setting with a step of another kind is out of range
---   zero-step                    == so is one with the step 0
---   stands-level, stands-scale   == for the kinds 0 and 1 the setting with the lent step stands for the lent one
---   stands-none                  == for any other kind the setting with the step 0 does
+--   other-kind    == a setting with a step of another kind is out of range
+--   zero-step     == so is one with the step 0
+--   stands-none   == for such a kind the setting with the step 0 stands for the lent one
 -- Assumes nothing.
-use mathlib.Core.Path.{◌≡◌, refl, sym, ap, ◌∙◌}
+use mathlib.Core.Path.{◌≡◌, refl, sym, ◌∙◌}
 use mathlib.Core.Bool.{Bool, true, false, ◌&&◌}
 use Prim.Native.Nat.{ℕ, ◌<◌}
 use lib.Ieee.{Float, binary32, of_bits, of_fields, odd, le}
@@ -30,18 +29,7 @@ pub zero-step : (bits limit : ℕ) → setting_fits (setting_by bits limit 0 (of
 unfolding setting_fits step_fits le of_bits of_fields odd
 zero-step bits limit = rw (and_none (ranges_fit bits limit))
 
--- the program's setting for each kind
-pub stands-level : (bits limit kind : ℕ) (step : Float) → kind ≡ 0 → StandsFor (setting_by bits limit kind step) (setting_by bits limit 0 step)
-stands-level bits limit kind step e =
-    let q : setting_by bits limit 0 step ≡ setting_by bits limit kind step = ap (λ (k : ℕ). setting_by bits limit k step) (sym e) in
-    record { fits = ap setting_fits q; same = λ y. q }
-
-pub stands-scale : (bits limit kind : ℕ) (step : Float) → kind ≡ 1 → StandsFor (setting_by bits limit kind step) (setting_by bits limit 1 step)
-stands-scale bits limit kind step e =
-    let q : setting_by bits limit 1 step ≡ setting_by bits limit kind step = ap (λ (k : ℕ). setting_by bits limit k step) (sym e) in
-    record { fits = ap setting_fits q; same = λ y. q }
-
--- for any other kind the setting with the step 0 does
+-- for another kind the setting with the step 0 stands for the lent one
 pub stands-none : (bits limit kind : ℕ) (step : Float) → 1 < kind → StandsFor (setting_by bits limit kind step) (setting_by bits limit 0 (of_bits binary32 0))
 stands-none bits limit kind step h =
     record {

@@ -13,16 +13,16 @@ ghost use Rattle.ffi_codes.specs.Codes.{code_of, Small};
 ghost use Rattle.ffi_codes.specs.Records.{record_cells, record_in, cells_of, written_by};
 ghost use Rattle.ffi_codes.specs.Settings.{StandsFor};
 
-use answers::{Answer, Checked, Counted, Refusal, Report, Stored};
+use answers::{Refusal, Report};
 use quantiser::{Setting, Step};
 use session_record::{Session, Turn, number_of, state_of};
 
-// A refusal: its number and its place.
+// A refusal: its number and its place. `firmware_codes` has the same in 32 bits, which is what its face answers in: one sum each, in two crates.
 fn refusal_code(f: Refusal) -> u64
     ensures { result ≡ refusal_number f * 65536 + refusal_place f }
 {
-    let k = answers::number(f) as u64;
-    let x = answers::place(f) as u64;
+    let k = f.number() as u64;
+    let x = f.place() as u64;
     k * 65536 + x
 }
 
@@ -32,7 +32,7 @@ fn report_code(p: Report) -> u64
     ensures { result ≡ code_of (report_of p) }
 {
     let outcome = p.outcome;
-    let o = answers::outcome_number(outcome) as u64;
+    let o = outcome.number() as u64;
     let r = p.rounds as u64;
     let f = p.failing as u64;
     let c = p.changed as u64;
@@ -41,45 +41,45 @@ fn report_code(p: Report) -> u64
 
 // The answer of a decoding call, or of the count of changed bits.
 // Only this repository's crates call it: every such answer has room.
-pub fn answer_code(a: Answer) -> u64
+pub fn answer_code(a: Result<Report, Refusal>) -> u64
     requires { Small (said_of a) }
     ensures { result ≡ code_of (said_of a) }
 {
     match a {
-        Answer::Done(p) => report_code(p),
-        Answer::Refused(f) => refusal_code(f),
+        Ok(p) => report_code(p),
+        Err(f) => refusal_code(f),
     }
 }
 
 // The answer of a count: failing alone is not 0.
 // Only this repository's crates call it: a count has room.
-pub fn counted_code(a: Counted) -> u64
+pub fn counted_code(a: Result<u16, Refusal>) -> u64
     requires { Small (counted_of a) }
     ensures { result ≡ code_of (counted_of a) }
 {
     match a {
-        Counted::Failing(f) => 4294967296 * (256 * (f as u64)),
-        Counted::Refused(f) => refusal_code(f),
+        Ok(f) => 4294967296 * (256 * (f as u64)),
+        Err(e) => refusal_code(e),
     }
 }
 
 // The answer of a check: 0 where it accepts.
-pub fn checked_code(a: Checked) -> u64
+pub fn checked_code(a: Result<(), Refusal>) -> u64
     ensures { result ≡ code_of (after (verdict_of a) acceptance) }
 {
     match a {
-        Checked::Accepted => 0,
-        Checked::Refused(f) => refusal_code(f),
+        Ok(()) => 0,
+        Err(refusal) => refusal_code(refusal),
     }
 }
 
 // The answer of a call that stores a sheet: how many bytes it wrote.
-pub fn stored_code(a: Stored) -> u64
+pub fn stored_code(a: Result<u32, Refusal>) -> u64
     ensures { result ≡ code_of (stored_of a) }
 {
     match a {
-        Stored::Bytes(k) => 4294967296 * (k as u64),
-        Stored::Refused(f) => refusal_code(f),
+        Ok(k) => 4294967296 * (k as u64),
+        Err(why) => refusal_code(why),
     }
 }
 
@@ -90,25 +90,12 @@ pub const RECORD_CELLS: usize = 8;
 pub fn setting_of(bits: u16, limit: u16, kind: u16, step: f32) -> Setting
     ensures { StandsFor (setting_by bits limit kind step) (setting_of result) }
 {
-    if kind == 0 {
-        return Setting {
-            bits,
-            limit,
-            step: Step::Level(step),
-        };
-    }
-    if kind == 1 {
-        return Setting {
-            bits,
-            limit,
-            step: Step::FullScale(step),
-        };
-    }
-    Setting {
-        bits,
-        limit,
-        step: Step::Level(0.0),
-    }
+    let step = match kind {
+        0 => Step::Level(step),
+        1 => Step::FullScale(step),
+        _ => Step::Level(0.0),
+    };
+    Setting { bits, limit, step }
 }
 
 // The session that a record's cells are.
@@ -117,9 +104,8 @@ pub fn session_in(cells: &[u16]) -> Session
     requires { length cells.now ≡ record_cells }
     ensures { record_of result ≡ record_in cells.now }
 {
-    let state = state_of(cells[0]);
     Session {
-        state,
+        state: state_of(cells[0]),
         bits: cells[1],
         limit: cells[2],
         k: cells[3],
@@ -130,27 +116,14 @@ pub fn session_in(cells: &[u16]) -> Session
     }
 }
 
-// Copies `from` to the front of the cells.
-fn copy_front(from: &[u16], cells: &mut [u16])
-    requires { length from.now ≤ length cells.old }
-    ensures { cells.new ≡ over from.now cells.old }
-{
-    let mut i = 0;
-    while i < from.len() {
-        cells[i] = from[i];
-        i += 1;
-    }
-}
-
 // The cells of a session.
+#[tactic(auto, unfolding(counting::specs::Paper::Lists::over))]
 fn session_out(s: Session, cells: &mut [u16])
     requires { length cells.old ≡ record_cells }
     ensures { cells.new ≡ over (cells_of (record_of s)) cells.old }
 {
-    let state = s.state;
-    let number = number_of(state);
-    let from = [number, s.bits, s.limit, s.k, s.n, s.m, s.rho, s.gamma];
-    copy_front(&from, cells);
+    let number = number_of(s.state);
+    cells.copy_from_slice(&[number, s.bits, s.limit, s.k, s.n, s.m, s.rho, s.gamma]);
 }
 
 // Brings the record up to date, unless the call was refused.
@@ -161,8 +134,8 @@ fn turn_out(turn: Turn, cells: &mut [u16])
     let answer = turn.answer;
     let s = turn.session;
     match answer {
-        Answer::Done(_) => session_out(s, cells),
-        Answer::Refused(_) => {}
+        Ok(_) => session_out(s, cells),
+        Err(_) => {}
     }
 }
 

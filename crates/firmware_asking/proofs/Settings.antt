@@ -1,10 +1,13 @@
 -- The setting that stands for the lent one.
 --   pattern-stands   == a step of 0 stands for a pattern that is not finite
+--   step-or_zero     == the step that is used: the pattern's float, or 0
 --   stands-through   == what stands for a stand-in stands for the setting
 -- Assumes nothing.
 use mathlib.Core.Path.{◌≡◌, refl, sym, ap, subst, ◌∙◌}
 use mathlib.Core.Bool.{Bool, true, false, cond, ◌&&◌}
 use Prim.Native.Nat.{ℕ}
+use Rattle.std.specs.Prelude.{Option, Some, None}
+use Rattle.std.specs.Option.{unwrap_or}
 use lib.Dec.{T, leb}
 use lib.Ieee.{Float, binary32, of_bits}
 use lib.Ieee.Scale.{finite}
@@ -47,6 +50,13 @@ pattern-stands bits limit kind p x e =
       fits = unfit-step (setting_by bits limit kind x) (ap step_fits q ∙ zero-unfit) ∙ sym off;
       same = λ f. absurd (never (sym f ∙ off));
     })
+
+-- the step as it is used: the pattern's float, or 0 for one that is not finite
+pub step-or_zero : (p : ℕ) {o : Option Float} {x : Float} → o ≡ cond (finite (of_bits binary32 p)) (Some (of_bits binary32 p)) None
+    → x ≡ unwrap_or o (of_bits binary32 0) → x ≡ cond (finite (of_bits binary32 p)) (of_bits binary32 p) (of_bits binary32 0)
+step-or_zero p {o} {x} e u =
+    u ∙ ap (λ (y : Option Float). unwrap_or y (of_bits binary32 0)) e
+    ∙ cases (finite (of_bits binary32 p)) (λ y. rw y refl) (λ n. rw n refl)
 
 -- what stands for a stand-in stands for the setting
 pub stands-through : {R S T : Setting} → StandsFor R S → StandsFor S T → StandsFor R T

@@ -2,7 +2,7 @@
 // Rests on `ffi_codes`, `byte_numbers`, `quantiser`, `matrix_check` and `answers`. Document 02: cards 3 and 7.
 #![tactic(auto)]
 
-ghost use Rattle.std.specs.Prelude.{◌≡◌, cond, [], ◌≤◌};
+ghost use Rattle.std.specs.Prelude.{◌≡◌, cond, Some, None, [], ◌≤◌};
 ghost use Rattle.std.specs.Float.{binary32};
 ghost use Rattle.std.specs.Float.Ieee.{of_bits};
 ghost use Rattle.std.specs.Float.Ieee.Scale.{finite};
@@ -13,41 +13,41 @@ ghost use Rattle.ffi_codes.specs.Settings.{StandsFor};
 ghost use Rattle.firmware_asking.specs.Paper.Asked.{face_setting};
 ghost use Rattle.firmware_asking.specs.Asking.{list_verdict, lent_verdict};
 
-use answers::{Checked, Refusal};
+use answers::Refusal;
 use ffi_codes::setting_of;
 use matrix_check::Shape;
 use quantiser::Setting;
 
-// The float of a pattern; 0, which is no step in range, stands for one that is not finite.
-fn step_of(p: u32) -> f32
-    ensures { result ≡ cond (finite (of_bits binary32 p)) (of_bits binary32 p) (of_bits binary32 0) }
+// The float of a pattern, where it is finite.
+fn step_of(p: u32) -> Option<f32>
+    ensures { result ≡ cond (finite (of_bits binary32 p)) (Some (of_bits binary32 p)) None }
 {
     if byte_numbers::finite_pattern(p) {
-        return f32::from_bits(p);
+        return Some(f32::from_bits(p));
     }
-    0.0
+    None
 }
 
-// The setting of a kind of step and the step's bits. Where they are no step in range, one that is out of range stands for them.
+// The setting of a kind of step and the step's bits. Where they are no step in range, one that is out of range stands for them: 6 is refused in its turn.
 pub fn setting_by(bits: u16, limit: u16, kind: u16, p: u32) -> Setting
     ensures { StandsFor (face_setting bits limit kind p) (setting_of result) }
 {
-    setting_of(bits, limit, kind, step_of(p))
+    setting_of(bits, limit, kind, step_of(p).unwrap_or(0.0))
 }
 
 // Refusals 1 and 2, before the list is read.
-pub fn ask_list(shape: Shape, bytes: usize) -> Checked
+pub fn ask_list(shape: Shape, bytes: usize) -> Result<(), Refusal>
     ensures { verdict_of result ≡ list_verdict (matrix_of shape []) bytes }
 {
     if !matrix_check::sizes_fit(shape) {
-        return Checked::Refused(Refusal::Sizes);
+        return Err(Refusal::Sizes);
     }
     let m = shape.m as usize;
     let rho = shape.rho as usize;
     if bytes != 2 * (m * rho) {
-        return Checked::Refused(Refusal::Length);
+        return Err(Refusal::Length);
     }
-    Checked::Accepted
+    Ok(())
 }
 
 // Refusals 6 and 7, before the samples are read. Only this repository's crates call it, after the matrix is accepted.
@@ -58,19 +58,19 @@ pub fn ask_lent(
     word: usize,
     levels: usize,
     report: usize,
-) -> Checked
+) -> Result<(), Refusal>
     requires { n ≤ 1023 }
     ensures { verdict_of result ≡ lent_verdict n (setting_of setting) bytes word levels report }
 {
     if !quantiser::setting_fits(setting) {
-        return Checked::Refused(Refusal::Setting);
+        return Err(Refusal::Setting);
     }
     let need = (n + 7) / 8;
     if answers::wrong_lengths(bytes, 4 * n, word, need, levels, 2 * n) {
-        return Checked::Refused(Refusal::Buffer);
+        return Err(Refusal::Buffer);
     }
     if report < 8 {
-        return Checked::Refused(Refusal::Buffer);
+        return Err(Refusal::Buffer);
     }
-    Checked::Accepted
+    Ok(())
 }

@@ -2,7 +2,7 @@
 // Rests on `firmware_asking`, `firmware_codes`, `byte_numbers`, `iterative_core`, `matrix_index`, `matrix_check` and `answers`. Document 02: cards 3 and 7.
 #![tactic(auto)]
 
-ghost use Rattle.std.specs.Prelude.{◌≤◌, length};
+ghost use Rattle.std.specs.Prelude.{◌*◌, ◌≤◌, length};
 ghost use Rattle.answers.specs.Paper.Answers.{accepted, refuse_at};
 ghost use Rattle.answers.specs.Paper.Enums.{report_of, said_of};
 ghost use Rattle.byte_numbers.specs.Paper.Numbers.{entries_in, samples_in};
@@ -15,7 +15,7 @@ ghost use Rattle.firmware_asking.specs.Paper.Asked.{bytes_verdict, face_verdict}
 ghost use Rattle.firmware_asking.specs.Asking.{FaceLent};
 ghost use Rattle.firmware_decoding.specs.Parts.{OutLent, DecodedOut, Answered, ListAnswered};
 
-use answers::{Answer, Checked, Refusal, Report};
+use answers::{Refusal, Report};
 use firmware_asking::{ask_lent, ask_list};
 use matrix_check::Shape;
 use quantiser::Setting;
@@ -23,6 +23,9 @@ use quantiser_levels::Cell;
 
 // Lists of up to so many entries are read into a small array: to clear the large one adds about a sixth to the time of a call on a small code.
 const FEW: usize = 2048;
+
+// The most entries that an accepted matrix can have.
+const MANY: usize = 32736;
 
 // The core on samples that are known to be accepted, with an index made for this call.
 fn with_index(
@@ -72,17 +75,16 @@ fn on_bytes(
     word: &mut [u8],
     levels: &mut [u8],
     report: &mut [u8],
-) -> Answer
+) -> Result<Report, Refusal>
     requires { FaceLent (matrix_of shape list.now) (setting_of setting) samples.now (length word.old) (length levels.old) (length report.old) }
     ensures { Answered (refuse_at 8 (first_not_finite (samples_in samples.now)) (length (samples_in samples.now)) accepted) (matrix_of shape list.now) (setting_of setting) samples.now (said_of result) word.old word.new levels.old levels.new report.old report.new }
 {
     let n = shape.n as usize;
     let mut xs = [0f32; 1023];
-    let place = byte_numbers::samples(samples, &mut xs);
-    if place < n {
-        return Answer::Refused(Refusal::Sample(place as u16));
+    if let Some(place) = byte_numbers::samples(samples, &mut xs) {
+        return Err(Refusal::Sample(place as u16));
     }
-    Answer::Done(decode_out(shape, list, setting, &xs[..n], word, levels, report))
+    Ok(decode_out(shape, list, setting, &xs[..n], word, levels, report))
 }
 
 // Refusals 6 to 8, or the decoding, once the matrix is accepted.
@@ -94,23 +96,20 @@ fn on_accepted(
     word: &mut [u8],
     levels: &mut [u8],
     report: &mut [u8],
-) -> Answer
+) -> Result<Report, Refusal>
     requires { Accepted (matrix_of shape list.now) }
     ensures { Answered (bytes_verdict shape.n (setting_of setting) samples.now (length word.old) (length levels.old) (length report.old)) (matrix_of shape list.now) (setting_of setting) samples.now (said_of result) word.old word.new levels.old levels.new report.old report.new }
 {
     let n = shape.n as usize;
-    let asked = ask_lent(
+    ask_lent(
         n,
         setting,
         samples.len(),
         word.len(),
         levels.len(),
         report.len(),
-    );
-    match asked {
-        Checked::Accepted => on_bytes(shape, list, setting, samples, word, levels, report),
-        Checked::Refused(f) => Answer::Refused(f),
-    }
+    )?;
+    on_bytes(shape, list, setting, samples, word, levels, report)
 }
 
 // The matrix check, then the rest.
@@ -122,17 +121,15 @@ fn on_list(
     word: &mut [u8],
     levels: &mut [u8],
     report: &mut [u8],
-) -> Answer
+) -> Result<Report, Refusal>
     ensures { ListAnswered (matrix_of shape list.now) (setting_of setting) samples.now (said_of result) word.old word.new levels.old levels.new report.old report.new }
 {
-    match matrix_check::check(shape, list) {
-        Checked::Accepted => on_accepted(shape, list, setting, samples, word, levels, report),
-        Checked::Refused(f) => Answer::Refused(f),
-    }
+    matrix_check::check(shape, list)?;
+    on_accepted(shape, list, setting, samples, word, levels, report)
 }
 
-// A list of few entries.
-fn on_few(
+// The list read into an array of so many entries, then the rest.
+fn with_room<const ROOM: usize>(
     shape: Shape,
     list: &[u8],
     setting: Setting,
@@ -140,39 +137,12 @@ fn on_few(
     word: &mut [u8],
     levels: &mut [u8],
     report: &mut [u8],
-) -> Answer
-    requires { length list.now ≤ 4096 }
+) -> Result<Report, Refusal>
+    requires { (length list.now ≤ 2 * ROOM) × (ROOM ≤ 32736) }
     ensures { ListAnswered (matrix_of shape (entries_in list.now)) (setting_of setting) samples.now (said_of result) word.old word.new levels.old levels.new report.old report.new }
 {
     let size = list.len() / 2;
-    let mut entries = [0u16; FEW];
-    byte_numbers::entries(list, &mut entries);
-    on_list(
-        shape,
-        &entries[..size],
-        setting,
-        samples,
-        word,
-        levels,
-        report,
-    )
-}
-
-// A list of any number of entries that an accepted matrix can have.
-fn on_many(
-    shape: Shape,
-    list: &[u8],
-    setting: Setting,
-    samples: &[u8],
-    word: &mut [u8],
-    levels: &mut [u8],
-    report: &mut [u8],
-) -> Answer
-    requires { length list.now ≤ 65472 }
-    ensures { ListAnswered (matrix_of shape (entries_in list.now)) (setting_of setting) samples.now (said_of result) word.old word.new levels.old levels.new report.old report.new }
-{
-    let size = list.len() / 2;
-    let mut entries = [0u16; 32736];
+    let mut entries = [0u16; ROOM];
     byte_numbers::entries(list, &mut entries);
     on_list(
         shape,
@@ -194,14 +164,14 @@ fn on_read(
     word: &mut [u8],
     levels: &mut [u8],
     report: &mut [u8],
-) -> Answer
+) -> Result<Report, Refusal>
     requires { length list.now ≤ 65472 }
     ensures { ListAnswered (matrix_of shape (entries_in list.now)) (setting_of setting) samples.now (said_of result) word.old word.new levels.old levels.new report.old report.new }
 {
     if list.len() <= 2 * FEW {
-        return on_few(shape, list, setting, samples, word, levels, report);
+        return with_room::<FEW>(shape, list, setting, samples, word, levels, report);
     }
-    on_many(shape, list, setting, samples, word, levels, report)
+    with_room::<MANY>(shape, list, setting, samples, word, levels, report)
 }
 
 // Every refusal in its order, or the decoding.
@@ -213,11 +183,9 @@ pub fn decode(
     word: &mut [u8],
     levels: &mut [u8],
     report: &mut [u8],
-) -> Answer
+) -> Result<Report, Refusal>
     ensures { Answered (face_verdict (matrix_of shape (entries_in list.now)) list.now (setting_of setting) samples.now (length word.old) (length levels.old) (length report.old)) (matrix_of shape (entries_in list.now)) (setting_of setting) samples.now (said_of result) word.old word.new levels.old levels.new report.old report.new }
 {
-    match ask_list(shape, list.len()) {
-        Checked::Accepted => on_read(shape, list, setting, samples, word, levels, report),
-        Checked::Refused(f) => Answer::Refused(f),
-    }
+    ask_list(shape, list.len())?;
+    on_read(shape, list, setting, samples, word, levels, report)
 }

@@ -11,7 +11,7 @@ ghost use Rattle.quantiser_settings.specs.Paper.Settings.{setting_of};
 ghost use Rattle.iterative_core.specs.Paper.Call.{IterativeAnswered};
 ghost use Rattle.iterative_rule.specs.Paper.Claims.{IterativeRule, AmpleLimit};
 
-use answers::{Answer, Checked};
+use answers::{Refusal, Report};
 pub use iterative_core::iterative_accepted;
 use matrix_check::Shape;
 use quantiser::Setting;
@@ -26,18 +26,13 @@ pub fn iterative_own(
     samples: &[f32],
     word: &mut [u8],
     levels: &mut [Cell],
-) -> Answer
+) -> Result<Report, Refusal>
     requires { Accepted (matrix_of shape list.now) × (index.now ≡ index_of (matrix_of shape list.now)) }
     ensures { IterativeAnswered (matrix_of shape list.now) (setting_of setting) samples.now (said_of result) word.old word.new levels.old levels.new }
 {
     let n = shape.n as usize;
-    let asked = iterative_core::ask_samples(n, setting, samples, word.len(), levels.len());
-    match asked {
-        Checked::Accepted => {
-            Answer::Done(iterative_accepted(shape, list, index, setting, samples, word, levels))
-        }
-        Checked::Refused(f) => Answer::Refused(f),
-    }
+    iterative_core::ask_samples(n, setting, samples, word.len(), levels.len())?;
+    Ok(iterative_accepted(shape, list, index, setting, samples, word, levels))
 }
 
 // The same with an index made for this call.
@@ -48,7 +43,7 @@ fn with_index(
     samples: &[f32],
     word: &mut [u8],
     levels: &mut [Cell],
-) -> Answer
+) -> Result<Report, Refusal>
     requires { Accepted (matrix_of shape list.now) }
     ensures { IterativeAnswered (matrix_of shape list.now) (setting_of setting) samples.now (said_of result) word.old word.new levels.old levels.new }
 {
@@ -66,13 +61,11 @@ pub fn iterative(
     samples: &[f32],
     word: &mut [u8],
     levels: &mut [Cell],
-) -> Answer
+) -> Result<Report, Refusal>
     ensures answer { IterativeAnswered (matrix_of shape list.now) (setting_of setting) samples.now (said_of result) word.old word.new levels.old levels.new }
     ensures flipping_rule { IterativeRule (matrix_of shape list.now) (setting_of setting) samples.now word.old word.new levels.old (said_of result) }
     ensures ample_limit { AmpleLimit (matrix_of shape list.now) (setting_of setting) samples.now word.old word.new levels.old (said_of result) }
 {
-    match matrix_check::check(shape, list) {
-        Checked::Accepted => with_index(shape, list, setting, samples, word, levels),
-        Checked::Refused(f) => Answer::Refused(f),
-    }
+    matrix_check::check(shape, list)?;
+    with_index(shape, list, setting, samples, word, levels)
 }

@@ -21,34 +21,33 @@ fn mark_one(r: Cell, z: u8) -> u8
 }
 
 // Marks the first n places; the cells past them stay. Only this repository's crates call it, with a level for each place.
+#[tactic(auto, using(counting::proofs::Loops::over_start, counting::proofs::Loops::over_step))]
 pub fn mark(opened: &[Cell], bits: &[u8; 1023], n: usize, marks: &mut [u8; 1023])
     requires { (n ≤ 1023) × (n ≤ length opened.now) × (length marks.old ≡ 1023) }
     ensures { marks.new ≡ over (listed n (marked_by opened.now (at bits.now))) marks.old }
 {
-    let mut j = 0;
-    while j < n {
+    for j in 0..n {
         marks[j] = mark_one(opened[j], bits[j]);
-        j += 1;
     }
 }
 
 // Whether a mark is the other bit than z, as a bit.
+#[tactic(auto, unfolding(counting::specs::Paper::Sum::same))]
 fn turned_one(mark: u8, z: u8) -> u8
     requires { z < 2 }
     ensures { result ≡ same mark (1 - z) }
 {
-    if mark == 1 - z { 1 } else { 0 }
+    (mark == 1 - z) as u8
 }
 
 // The places that were turned over, as bits: 1 where the mark is the other bit. The cells past the first n stay.
+#[tactic(auto, using(counting::proofs::Loops::over_start, counting::proofs::Loops::over_step))]
 fn put_turned(marks: &[u8; 1023], bits: &[u8; 1023], n: usize, places: &mut [u8; 1023])
     requires { (n ≤ 1023) × (length places.old ≡ 1023) × ((j : ℕ) → j < n → at bits.now j < 2) }
     ensures { places.new ≡ over (listed n (turned_at (at marks.now) (at bits.now))) places.old }
 {
-    let mut j = 0;
-    while j < n {
+    for j in 0..n {
         places[j] = turned_one(marks[j], bits[j]);
-        j += 1;
     }
 }
 

@@ -12,7 +12,7 @@ ghost use Rattle.matrix_index.specs.Paper.Index.{index_of};
 ghost use Rattle.iterative_core.specs.Paper.Iterative.{samples_verdict};
 ghost use Rattle.iterative_core.specs.Calls.{CallLent, Started, Decoded};
 
-use answers::{Checked, Refusal, Report};
+use answers::{Refusal, Report};
 use iterative_levels::Kept;
 use matrix_check::Shape;
 use quantiser::Setting;
@@ -26,23 +26,21 @@ pub fn ask_samples(
     samples: &[f32],
     bytes: usize,
     room: usize,
-) -> Checked
+) -> Result<(), Refusal>
     requires { n ≤ 1023 }
     ensures { verdict_of result ≡ samples_verdict n (setting_of setting) samples.now bytes room }
 {
     let need = (n + 7) / 8;
     if !quantiser::setting_fits(setting) {
-        return Checked::Refused(Refusal::Setting);
+        return Err(Refusal::Setting);
     }
     if answers::wrong_lengths(samples.len(), n, bytes, need, room, n) {
-        return Checked::Refused(Refusal::Buffer);
+        return Err(Refusal::Buffer);
     }
-    let found = quantiser::first_not_finite(samples);
-    if found < samples.len() {
-        let place = found as u16;
-        return Checked::Refused(Refusal::Sample(place));
+    if let Some(place) = quantiser::first_not_finite(samples) {
+        return Err(Refusal::Sample(place as u16));
     }
-    Checked::Accepted
+    Ok(())
 }
 
 // Step 1: the samples' levels, written to the caller's buffer and kept for the rounds, and their hard bits.

@@ -10,7 +10,7 @@ ghost use Rattle.quantiser_settings.specs.Paper.Settings.{setting_of};
 ghost use Rattle.iterative_core.specs.Paper.Call.{IterativeAnswered};
 ghost use Rattle.iterative_indexed.specs.Paper.Call.{IterativeIndexedAnswered};
 
-use answers::{Answer, Checked};
+use answers::{Refusal, Report};
 use matrix_check::Shape;
 use quantiser::Setting;
 use quantiser_levels::Cell;
@@ -24,14 +24,10 @@ pub fn iterative_indexed(
     samples: &[f32],
     word: &mut [u8],
     levels: &mut [Cell],
-) -> Answer
+) -> Result<Report, Refusal>
     ensures answer { IterativeIndexedAnswered (matrix_of shape list.now) index.now (setting_of setting) samples.now (said_of result) word.old word.new levels.old levels.new }
     ensures alike { index.now ≡ index_of (matrix_of shape list.now) → IterativeAnswered (matrix_of shape list.now) (setting_of setting) samples.now (said_of result) word.old word.new levels.old levels.new }
 {
-    match matrix_index_check::check_indexed(shape, list, index) {
-        Checked::Accepted => {
-            iterative::iterative_own(shape, list, index, setting, samples, word, levels)
-        }
-        Checked::Refused(f) => Answer::Refused(f),
-    }
+    matrix_index_check::check_indexed(shape, list, index)?;
+    iterative::iterative_own(shape, list, index, setting, samples, word, levels)
 }

@@ -22,20 +22,12 @@ fn by_bit(z: u8, zero: u16, one: u16) -> u16
     if z == 0 { zero } else { one }
 }
 
-// up - minus, cut to 0.
-fn lowered(up: Kept, minus: u16) -> Kept
-    ensures { result ≡ up - minus }
-{
-    if up < minus { 0 } else { up - minus }
-}
-
 // x + plus - minus, cut to 0 and the ceiling.
 fn shifted(x: Kept, plus: u16, minus: u16, ceiling: Kept) -> Kept
     requires { x + plus < 65536 }
     ensures { result ≡ min ceiling (x + plus - minus) }
 {
-    let y = lowered(x + plus, minus);
-    if y < ceiling { y } else { ceiling }
+    (x + plus).saturating_sub(minus).min(ceiling)
 }
 
 // The next level of a bit z, v of whose own `weight` checks fail: E is 2v - weight where z is 0, weight - 2v where it is 1.
@@ -50,10 +42,11 @@ fn next_level(x: Kept, z: u8, v: u8, weight: u8, ceiling: Kept) -> Kept
 }
 
 // The bit of a level: 1 exactly where R is above 0.
+#[tactic(auto, unfolding(crate::specs::Levels::above_middle))]
 fn is_above(x: Kept, middle: Kept) -> u8
     ensures { result ≡ above_middle middle x }
 {
-    if middle < x { 1 } else { 0 }
+    (middle < x) as u8
 }
 
 // Brings the first n levels and bits to the next round. Each reads its own votes, which are those of the old bits, and its own weight.
@@ -71,25 +64,22 @@ pub fn update(
     requires { Bounds n ceiling levels.old × (length bits.old ≡ 1023) × (length levels.old ≡ 1023) }
     ensures { Moved votes.now (at weights.now) n middle ceiling bits.old levels.old bits.new levels.new }
 {
-    let mut j = 0;
-    while j < n {
+    for j in 0..n {
         let x = next_level(levels[j], bits[j], votes[j], weights[j], ceiling);
         levels[j] = x;
         bits[j] = is_above(x, middle);
-        j += 1;
     }
 }
 
 // Keeps the first n weights as numbers of eight bits; the cells past them stay. Only this repository's crates call it, with weights of up to 255.
+// `matrix_columns::weigh` is its like over words of 64 bits behind the columns' sets; one line of a loop is shorter than a trait for both.
+#[tactic(auto, using(counting::proofs::Loops::over_start, counting::proofs::Loops::over_step))]
 pub fn narrow(weights: &[u16; 1023], n: usize, kept: &mut [u8; 1023])
     requires { Narrow n weights.now × (length kept.old ≡ 1023) }
     ensures { kept.new ≡ over (listed n (at weights.now)) kept.old }
 {
-    let mut j = 0;
-    while j < n {
-        let x = weights[j];
-        kept[j] = x as u8;
-        j += 1;
+    for j in 0..n {
+        kept[j] = weights[j] as u8;
     }
 }
 
@@ -115,22 +105,18 @@ pub fn bias(levels: &[Cell], n: usize, middle: Kept, kept: &mut [Kept; 1023])
     requires { Bounded n middle levels.now × (length kept.old ≡ 1023) }
     ensures { Biased n middle levels.now kept.old kept.new }
 {
-    let mut j = 0;
-    while j < n {
+    for j in 0..n {
         kept[j] = bias_one(levels[j], middle);
-        j += 1;
     }
 }
 
 // Writes the first n levels back. Only this repository's crates call it, with room for them.
+#[tactic(auto, using(counting::proofs::Loops::over_start, counting::proofs::Loops::over_step, counting::proofs::Loops::over_length), unfolding(crate::specs::Levels::unbiased))]
 pub fn unbias(kept: &[Kept; 1023], n: usize, middle: Kept, levels: &mut [Cell])
     requires { Restorable n middle kept.now levels.old }
     ensures { levels.new ≡ over (listed n (unbiased middle kept.now)) levels.old }
 {
-    let mut j = 0;
-    while j < n {
-        let r = unbias_one(kept[j], middle);
-        levels[j] = r;
-        j += 1;
+    for j in 0..n {
+        levels[j] = unbias_one(kept[j], middle);
     }
 }

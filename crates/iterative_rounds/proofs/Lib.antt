@@ -1,3 +1,4 @@
+pub mod Copies
 pub mod Extrinsic
 pub mod Ends
 pub mod States

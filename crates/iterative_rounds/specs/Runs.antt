@@ -2,7 +2,7 @@
 --   state_of L z x        == the state that the bits z and the levels x stand for
 --   Holds n L z x s      == they stand for the state s below n
 --   RunLent H L z x      == what a round asks: an accepted matrix, bits, and levels in their range
---   Rounded              == what a round leaves: the next bits and levels, their parities, their votes and their failing checks
+--   Rounded              == what a round leaves: the next bits and levels, their votes and their failing checks
 --   Stopped H L e ..     == the arrays hold the state of the end e, with its rounds and its failing checks
 --   RunLeft              == what the rounds from the arrays' state on leave; the cells past the bits stay
 -- Levels are kept as in specs/Levels.antt of `iterative_levels`. Assumes nothing.
@@ -10,7 +10,7 @@ use Rattle.std.specs.Prelude.{◌≡◌, List, ℕ, ◌*◌, ◌≤◌, ◌<◌,
 use Rattle.counting.specs.Places.{at}
 use Rattle.matrix.specs.Paper.Code.{Matrix, Word, weight, failing}
 use Rattle.matrix.specs.Paper.PlainCheck.{Accepted}
-use Rattle.iterative_tally.specs.Retally.{Retallied}
+use Rattle.majority_votes.specs.Tallies.{Tallied}
 use Rattle.iterative_rounds.specs.Paper.Rounds.{State, state, End, end_of}
 use Rattle.iterative_levels.specs.Levels.{biased, unbiased, Moved}
 use Rattle.quantiser_levels.specs.Paper.Samples.{most_level}
@@ -34,10 +34,10 @@ pub record RunLent (H : Matrix) (L : ℕ) (z x : List ℕ) : Type 0 where
   pub word : Word H (at z)
   pub within : (j : ℕ) → j < H.n → at x j ≤ 2 * L
 
--- bits z and levels x by the votes v, then parities p and votes become those of the new bits, f of whose checks fail
-pub record Rounded (H : Matrix) (L : ℕ) (v z x z' x' p p' v' : List ℕ) (f : ℕ) : Type 0 where
+-- bits z and levels x by the votes v, then the votes become those of the new bits, f of whose checks fail
+pub record Rounded (H : Matrix) (L : ℕ) (v z x z' x' v' : List ℕ) (f : ℕ) : Type 0 where
   pub moved : Moved v (weight H) H.n L (2 * L) z x z' x'
-  pub tallied : Retallied H (at z') p p' v' f
+  pub tallied : Tallied H (at z') v' f
 
 -- the arrays hold the state at the end e, k and f are its rounds and its failing checks
 pub record Stopped (H : Matrix) (L : ℕ) (e : End) (z x : List ℕ) (k f : ℕ) : Type 0 where

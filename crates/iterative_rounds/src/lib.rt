@@ -1,12 +1,18 @@
-// Rounds of reliability-based iterative majority-logic decoding: one round, and rounds until they end.
+// Rounds of reliability-based iterative majority-logic decoding: one round, and rounds until they end, by whichever way the votes are found.
 // Rests on `iterative_levels`, `iterative_tally`, `majority_votes` and `matrix_degrees`. Document 01: "Iterative voting", steps 2 to 6; document 02: card 2.
 #![tactic(auto)]
 
-ghost use Rattle.std.specs.Prelude.{◌≡◌};
+ghost use Rattle.std.proofs.Common.{sym, ◌∙◌};
+ghost use Rattle.std.specs.Prelude.{◌≡◌, ◌≤◌, ◌<◌, ℕ, List, length, replicate};
+ghost use Rattle.counting.specs.Paper.Lists.{listed, over};
 ghost use Rattle.counting.specs.Places.{at};
+ghost use Rattle.matrix.specs.Paper.Code.{Matrix, Word};
+ghost use Rattle.matrix.specs.Paper.PlainCheck.{Accepted};
 ghost use Rattle.matrix.specs.Paper.Shapes.{matrix_of};
 ghost use Rattle.matrix.specs.Tallies.{Weighed};
+ghost use Rattle.matrix.proofs.Rows.{fails-cong};
 ghost use Rattle.matrix_index.specs.Paper.Index.{index_of};
+ghost use Rattle.majority_votes.specs.Tallies.{Tallied};
 ghost use Rattle.syndrome_update.specs.Parities.{Parities};
 ghost use Rattle.iterative_rounds.specs.Runs.{RunLent, Rounded, RunLeft};
 
@@ -14,59 +20,114 @@ use iterative_levels::Kept;
 use majority_votes::Stop;
 use matrix_check::Shape;
 
+// How the votes of a word follow from those of the word before.
+pub trait Tally {
+    // what is kept from word to word is that of this word and its votes
+    ghost keeps: { Self → Matrix → (ℕ → ℕ) → List ℕ → Type 0 };
+
+    // The votes of the word `before` become those of the word `bits`; says how many checks fail.
+    fn retally(
+        &mut self,
+        shape: Shape,
+        list: &[u16],
+        before: &[u8; 1023],
+        bits: &[u8; 1023],
+        votes: &mut [u8; 1023],
+    ) -> u16
+        requires accepted { Accepted (matrix_of shape list.now) }
+        requires word { Word (matrix_of shape list.now) (at before.now) × Word (matrix_of shape list.now) (at bits.now) × keeps self.old (matrix_of shape list.now) (at before.now) votes.old }
+        ensures { keeps self.new (matrix_of shape list.now) (at bits.now) votes.new × Tallied (matrix_of shape list.now) (at bits.now) votes.new result };
+
+    // only the bits below n count, so that it is that of a copy too
+    ghost of_copy: { (w : Self) (H : Matrix) (a z : ℕ → ℕ) (v : List ℕ) → Accepted H → ((j : ℕ) → j < H.n → a j ≡ z j) → keeps w H z v → keeps w H a v };
+}
+
+// By the index: the parities of the checks are kept.
+#[derive(Drop)]
+pub struct ByIndex<'a> {
+    index: &'a [u16],
+    parity: [u8; 1023],
+}
+
+impl<'a> Tally for ByIndex<'a> {
+    ghost keeps = { λ w H z v. (w.index.now ≡ index_of H) × Parities H z w.parity };
+
+    fn retally(
+        &mut self,
+        shape: Shape,
+        list: &[u16],
+        before: &[u8; 1023],
+        bits: &[u8; 1023],
+        votes: &mut [u8; 1023],
+    ) -> u16 {
+        iterative_tally::retally(
+            shape,
+            list,
+            self.index,
+            before,
+            bits,
+            &mut self.parity,
+            votes,
+        )
+    }
+
+    ghost of_copy = { λ w H a z v r e k. (k.0, record { bits = k.1.bits; each = λ i h. k.1.each i h ∙ sym (fails-cong H r.rows a z e i h) }) };
+}
+
+// Copies the first n bits. The cells past them stay.
+#[tactic(auto, using(crate::proofs::Copies::front_copied))]
+fn copy(n: usize, bits: &[u8; 1023], to: &mut [u8; 1023])
+    requires { (n ≤ 1023) × (length to.old ≡ 1023) }
+    ensures { to.new ≡ over (listed n (at bits.now)) to.old }
+{
+    to[..n].copy_from_slice(&bits[..n]);
+}
+
 // One round, steps 4 to 6: bits and levels by the votes of the old bits, then the votes of the new ones.
 // How many checks fail is asked next, so it is counted with the votes.
-fn round(
+fn round<T: Tally>(
+    way: &mut T,
     shape: Shape,
     list: &[u16],
-    index: &[u16],
     weights: &[u8; 1023],
     middle: Kept,
     bits: &mut [u8; 1023],
     levels: &mut [Kept; 1023],
-    parity: &mut [u8; 1023],
+    before: &mut [u8; 1023],
     votes: &mut [u8; 1023],
 ) -> u16
-    requires run_lent { RunLent (matrix_of shape list.now) middle bits.old levels.old }
-    requires index_value { (index.now ≡ index_of (matrix_of shape list.now)) × Parities (matrix_of shape list.now) (at bits.old) parity.old × Weighed (matrix_of shape list.now) weights.now }
-    ensures { Rounded (matrix_of shape list.now) middle votes.old bits.old levels.old bits.new levels.new parity.old parity.new votes.new result }
+    requires run_lent { RunLent (matrix_of shape list.now) middle bits.old levels.old × Weighed (matrix_of shape list.now) weights.now }
+    requires kept { T.keeps way.old (matrix_of shape list.now) (at bits.old) votes.old × (length before.old ≡ 1023) }
+    ensures { Rounded (matrix_of shape list.now) middle votes.old bits.old levels.old bits.new levels.new votes.new result × T.keeps way.new (matrix_of shape list.now) (at bits.new) votes.new × (length before.new ≡ 1023) }
 {
     let n = shape.n as usize;
     let ceiling = 2 * middle;
-    let before = *bits;
+    copy(n, bits, before);
     iterative_levels::update(votes, weights, n, middle, ceiling, bits, levels);
-    iterative_tally::retally(shape, list, index, &before, bits, parity, votes)
+    way.retally(shape, list, before, bits, votes)
 }
 
-// Rounds until no check fails or the limit is reached, with the columns' weights at hand.
-// The parities of a word of zeros are 0, so that the first bits are tallied as those of any round.
-fn rounds_on(
+// Rounds until no check fails or the limit is reached, with the columns' weights at hand. `way` is lent as that of a word of zeros,
+// which has no votes, so that the first bits are tallied as those of any round. The arrays of a round are made once.
+// Only this repository's crates call it, after asking the refusals.
+pub fn rounds_on<T: Tally>(
+    way: &mut T,
     shape: Shape,
     list: &[u16],
-    index: &[u16],
     weights: &[u8; 1023],
     limit: u16,
     middle: Kept,
     bits: &mut [u8; 1023],
     levels: &mut [Kept; 1023],
 ) -> Stop
-    requires { RunLent (matrix_of shape list.now) middle bits.old levels.old × (index.now ≡ index_of (matrix_of shape list.now)) × Weighed (matrix_of shape list.now) weights.now }
+    requires run_lent { RunLent (matrix_of shape list.now) middle bits.old levels.old × Weighed (matrix_of shape list.now) weights.now }
+    requires kept { T.keeps way.old (matrix_of shape list.now) (at (replicate 1023 0)) (replicate 1023 0) }
     ensures { RunLeft (matrix_of shape list.now) middle limit bits.old levels.old bits.new levels.new result.rounds result.failing }
 {
-    let zeros = [0u8; 1023];
-    let mut parity = [0u8; 1023];
+    let mut before = [0u8; 1023];
     let mut votes = [0u8; 1023];
-    let mut failing = iterative_tally::retally(
-        shape,
-        list,
-        index,
-        &zeros,
-        bits,
-        &mut parity,
-        &mut votes,
-    );
-    let mut k: u16 = 0;
-    while k < limit {
+    let mut failing = way.retally(shape, list, &before, bits, &mut votes);
+    for k in 0..limit {
         if failing == 0 {
             return Stop {
                 rounds: k,
@@ -74,19 +135,21 @@ fn rounds_on(
             };
         }
         failing = round(
+            way,
             shape,
             list,
-            index,
             weights,
             middle,
             bits,
             levels,
-            &mut parity,
+            &mut before,
             &mut votes,
         );
-        k += 1;
     }
-    Stop { rounds: k, failing }
+    Stop {
+        rounds: limit,
+        failing,
+    }
 }
 
 // Rounds until no check fails or the limit is reached. Only this repository's crates call it, after asking the refusals.
@@ -108,5 +171,9 @@ pub fn run(
     let mut weights = [0u8; 1023];
     matrix_degrees::weigh_starts(index, n, &mut wide);
     iterative_levels::narrow(&wide, n, &mut weights);
-    rounds_on(shape, list, index, &weights, limit, middle, bits, levels)
+    let mut way = ByIndex {
+        index,
+        parity: [0u8; 1023],
+    };
+    rounds_on(&mut way, shape, list, &weights, limit, middle, bits, levels)
 }

@@ -9,23 +9,25 @@
 --   ended-there      == those that no longer fail have theirs there, once the others have been added
 --   moved            == with the ones added and the others taken the votes are those of the set
 --   votes-past       == no bit past those of the matrix has votes
---   none_is          == a cleared bit has no votes
+--   wiped            == a part that is all zeros stands for cleared votes
 --   cleared          == with those of its bits cleared there are no votes
 --   none_only        == a set has, and the empty one has not, what the set has
 --   anew-room        == the checks of a set have room in an array that has been cleared
 --   anew             == and added to it, are the votes of the set
 -- Assumes nothing.
 use mathlib.Core.Path.{◌≡◌, refl, sym, ap, ◌∙◌}
-use mathlib.Core.List.{List}
+use mathlib.Core.List.{List, ◌++◌}
 use Prim.Native.Nat.{ℕ, zero, suc, ◌+◌, ◌-◌, ◌*◌, ◌<◌, ◌≤◌}
 use native.Mathlib.Nat.{mul-add, mul-one, mul-le-mul_left}
 use native.Mathlib.Decide.{dec_lt}
 use native.Mathlib.Omega.{arith}
-use lib.ListN.{replicate}
+use lib.ListN.{length, take, drop, replicate}
+use lib.Seq.{length-take-le}
 use Rattle.counting.specs.Paper.Lists.{listed, over}
 use Rattle.counting.specs.Paper.Sum.{sum_below}
 use Rattle.counting.specs.Places.{at}
 use Rattle.counting.proofs.Sums.{sum-cong, sum-le, sum-add}
+use Rattle.counting.proofs.Loops.{over_fill}
 use Rattle.counting.proofs.Writes.{over-long, over-at, over-rest}
 use Rattle.matrix.specs.Paper.Code.{Matrix, has, weight}
 use Rattle.matrix.specs.Paper.PlainCheck.{Accepted}
@@ -157,10 +159,10 @@ votes-past H ac a v s =
     bit : (a : List ℕ) (i : ℕ) → bit_in a 0 i ≤ 1
     bit a i = omega (arith, bit-bit a 0 i)
 
--- a cleared bit
-pub none_is : (j : ℕ) → 0 ≡ no_votes j
+-- a part that is all zeros, before what stood behind it
+pub wiped : (n : ℕ) (old new : List ℕ) → n ≤ length old → new ≡ replicate (length (take n old)) 0 → new ++ drop n old ≡ over (listed n no_votes) old
 unfolding no_votes
-none_is j = refl
+wiped n old new h e = rw (e, length-take-le n old h) (over_fill n 0 old)
 
 -- with those of its bits cleared there are none
 pub cleared : (n : ℕ) (v new : List ℕ) → VotesOf n v → new ≡ over (listed n no_votes) v → (j : ℕ) → at new j ≡ 0

@@ -3,27 +3,14 @@
 // Rests on `syndrome_sets`, `syndrome_rows` and `majority_sets`. Document 01: "Iterative voting", step 4.
 #![tactic(auto)]
 
-ghost use Rattle.std.specs.Prelude.{◌≡◌, ◌≤◌, length};
-ghost use Rattle.counting.specs.Paper.Lists.{listed, over};
+ghost use Rattle.std.specs.Prelude.{◌≡◌, length};
 ghost use Rattle.matrix.specs.Paper.PlainCheck.{Accepted};
 ghost use Rattle.matrix.specs.Paper.Shapes.{matrix_of};
 ghost use Rattle.matrix_rows.specs.Rows.{RowSets};
 ghost use Rattle.syndrome_words.specs.Sets.{Within, set_failing, SetVotes};
-ghost use Rattle.iterative_votes.specs.Kept.{no_votes, VotesOf};
+ghost use Rattle.iterative_votes.specs.Kept.{VotesOf};
 
 use matrix_check::Shape;
-
-// Clears the votes on the first n bits.
-fn clear(n: usize, votes: &mut [u8; 1023])
-    requires { (n ≤ 1023) × (length votes.old ≡ 1023) }
-    ensures { votes.new ≡ over (listed n no_votes) votes.old }
-{
-    let mut j = 0;
-    while j < n {
-        votes[j] = 0;
-        j += 1;
-    }
-}
 
 // The checks of the set `parity` vote anew. No bit past those of the matrix has votes before.
 fn vote_anew(
@@ -41,7 +28,7 @@ fn vote_anew(
     let m = shape.m as usize;
     let none = [0u64; 16];
     let count = syndrome_rows::list_only(m, parity, &none, rows);
-    clear(n, votes);
+    votes[..n].fill(0);
     majority_sets::add(shape, list, supports, rows, count, votes);
 }
 

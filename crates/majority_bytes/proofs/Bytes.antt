@@ -1,42 +1,38 @@
 -- Bytes of words, and the loops that lay words out.
---   byte-shift    == a shift by 8 r places, modulo 256, is byte r
 --   byte-wide     == byte r of the word of numbers that fit in bytes is the number at place 8 r + s
 --   value-most    == a number of six digits is at most 63
---   word-step     == one word more
---   put-before    == a byte written behind a place leaves those before it
---   put_step      == one byte more of a word
---   laid-step     == the bytes of one word more
+--   put-long, put-before, put-bytes   == the eight bytes of a word put behind the first ones of a list
 --   laid-all      == the bytes of all words are the numbers of the planes
 -- Assumes nothing.
-use mathlib.Core.Path.{◌≡◌, refl, sym, ap, ap₂, ◌∙◌}
-use mathlib.Core.List.{List}
-use mathlib.Core.Logic.{inl, inr}
+use mathlib.Core.Path.{◌≡◌, refl, sym, ap, ◌∙◌}
+use mathlib.Core.List.{List, ◌++◌}
 use Prim.Native.Nat.{ℕ, zero, suc, ◌+◌, ◌*◌, ◌-◌, ◌/◌, ◌%◌, ◌^◌, ◌≤◌, ◌<◌}
-use native.Mathlib.Nat.{add-mul-div_right, div-eq_of_lt, mul_assoc, mul-le-mul_right, pow-suc, not-suc-le-zero}
-use native.Mathlib.Decide.{ℕ_discrete, dec_lt}
+use native.Mathlib.Nat.{add-mul-div_right, div-one, div-eq_of_lt, mul_assoc, mul-le-mul_right, pow-suc, not-suc-le-zero}
+use native.Mathlib.Decide.{ℕ_discrete}
 use native.Mathlib.Omega.{arith}
-use lib.Arith.{lt_of_le-ne}
 use lib.Pow.{pow-add}
-use lib.ListN.{length, set}
+use lib.ListN.{length, take, drop, length-append, length-drop, get_or-append}
+use lib.Seq.{get_or-append-add}
+use Rattle.std.specs.Int.{byte_at, bytes_low_first}
+use Rattle.std.proofs.lemmas.List.{get_or-take, length-take-le}
 use Rattle.counting.specs.Paper.Sum.{sum_below}
 use Rattle.counting.specs.Places.{at}
-use Rattle.counting.proofs.Writes.{stored}
 use Rattle.majority_planes.specs.Planes.{six_digits, plane_value}
 use Rattle.majority_bytes.specs.Bytes.{wide_of, byte_of, BytesLaid}
 
 -- ---- one byte
 
--- 2 ^ (8 r)
-pow-bytes : (r : ℕ) → 2 ^ (8 * r) ≡ 256 ^ r
-pow-bytes zero = refl
-pow-bytes (suc r) =
-    let e : 8 * suc r ≡ 8 * r + 8 = omega arith in
-    ap (λ (k : ℕ). 2 ^ k) e ∙ pow-add 2 (8 * r) 8 ∙ ap (λ (k : ℕ). k * 256) (pow-bytes r) ∙ sym (pow-suc 256 r)
-
--- a shift by 8 r places
-pub byte-shift : (x r : ℕ) → x / 2 ^ (8 * r) % 256 ≡ byte_of x r
+-- a word's byte
+byte-at : (i x : ℕ) → byte_at i x ≡ byte_of x i
 unfolding byte_of
-byte-shift x r = ap (λ (k : ℕ). x / k % 256) (pow-bytes r)
+byte-at zero x = ap (λ (y : ℕ). y % 256) (sym (div-one x))
+byte-at (suc i) x = refl
+
+-- in the list of its bytes
+low-byte : (i k x r : ℕ) → r < k → at (bytes_low_first i k x) r ≡ byte_of x (i + r)
+low-byte i zero x r h = absurd (not-suc-le-zero h)
+low-byte i (suc k) x zero h = byte-at i x ∙ ap (byte_of x) (omega arith)
+low-byte i (suc k) x (suc r) h = low-byte (suc i) k x r (omega arith) ∙ ap (byte_of x) (omega arith)
 
 pos-bytes : (r : ℕ) → 0 < 256 ^ r
 pos-bytes zero = omega arith
@@ -85,49 +81,47 @@ pub value-most : (P : List ℕ) (w t : ℕ) → plane_value P w t ≤ 63
 unfolding plane_value six_digits
 value-most P w t = omega arith
 
--- ---- words in their order
-
--- one word more
-pub word-step : (P x : List ℕ) (s w v : ℕ) → w < 16 → s < 8 → length x ≡ 128 → v ≡ wide_of (plane_value P w) s
-    → ((k : ℕ) → k < 16 * s + w → at x k ≡ wide_of (plane_value P (k % 16)) (k / 16))
-    → (k : ℕ) → k < 16 * s + (w + 1) → at (set x (16 * s + w) v) k ≡ wide_of (plane_value P (k % 16)) (k / 16)
-word-step P x s w v hw hs long e before k h =
-    elim (stored x (16 * s + w) v k (omega arith)) [
-      | inl here ↦
-          let word : w ≡ k % 16 = omega (arith, here.1) in
-          let place : s ≡ k / 16 = omega (arith, here.1) in
-          here.0 ∙ e ∙ ap₂ (λ (u y : ℕ). wide_of (plane_value P u) y) word place
-      | inr there ↦ there.0 ∙ before k (lt_of_le-ne (omega arith) there.1)
-    ]
-
 -- ---- bytes of words
 
--- one byte more of a word
-pub put-before : (bs₀ bs : List ℕ) (from r v : ℕ) → from + 8 ≤ 1024 → r < 8 → length bs ≡ 1024 → ((j : ℕ) → j < from → at bs j ≡ at bs₀ j)
-    → (j : ℕ) → j < from → at (set bs (from + r) v) j ≡ at bs₀ j
-put-before bs₀ bs from r v room hr long kept j h =
-    elim (stored bs (from + r) v j (omega arith)) [ inl here ↦ absurd (omega (arith, here.1)) | inr there ↦ there.0 ∙ kept j h ]
+-- a list with the eight bytes of a word put behind its first ones
+module _ (x from k : ℕ) (old ys : List ℕ) (eight : k ≡ 8) (room : from + 8 ≤ 1024) (long : length old ≡ 1024) (e : ys ≡ bytes_low_first 0 8 x) where
+  abbrev put : List ℕ
+  put = take from old ++ (ys ++ drop k (drop from old))
 
-pub put_step : (bs : List ℕ) (x from r v : ℕ) → from + 8 ≤ 1024 → r < 8 → length bs ≡ 1024 → v ≡ byte_of x r
-    → ((i : ℕ) → i < r → at bs (from + i) ≡ byte_of x i) → (i : ℕ) → i < r + 1 → at (set bs (from + r) v) (from + i) ≡ byte_of x i
-put_step bs x from r v room hr long e written i h =
-    elim (stored bs (from + r) v (from + i) (omega arith)) [
-      | inl here ↦ let same : r ≡ i = omega (arith, here.1) in here.0 ∙ e ∙ ap (byte_of x) same
-      | inr there ↦ there.0 ∙ written i (lt_of_le-ne (omega arith) (λ same. there.1 (ap (λ (y : ℕ). from + y) same)))
-    ]
+  front : length (take from old) ≡ from
+  front = length-take-le from old (omega (arith, long))
 
--- the bytes of one word more
-pub laid-step : (x bs bs' : List ℕ) (q : ℕ) → ((j : ℕ) → j < 8 * q → at bs' j ≡ at bs j) → ((r : ℕ) → r < 8 → at bs' (8 * q + r) ≡ byte_of (at x q) r)
-    → ((j : ℕ) → j < 8 * q → at bs j ≡ byte_of (at x (j / 8)) (j % 8))
-    → (j : ℕ) → j < 8 * (q + 1) → at bs' j ≡ byte_of (at x (j / 8)) (j % 8)
-laid-step x bs bs' q kept put before j h =
-    elim (dec_lt j (8 * q)) [
-      | yes l ↦ kept j l ∙ before j l
-      | no g ↦
-          let word : q ≡ j / 8 = omega arith in
-          let place : j ≡ 8 * q + j % 8 = omega arith in
-          ap (at bs') place ∙ put (j % 8) (omega arith) ∙ ap (λ (y : ℕ). byte_of (at x y) (j % 8)) word
-    ]
+  bytes : length ys ≡ 8
+  bytes = rw e (omega arith)
+
+  -- it stays as long, and keeps those before them
+  pub put-long : length put ≡ 1024
+  put-long =
+      omega (
+        arith,
+        length-append (take from old) (ys ++ drop k (drop from old)),
+        length-append ys (drop k (drop from old)),
+        length-drop k (drop from old),
+        length-drop from old,
+        front,
+        bytes,
+        long,
+        eight,
+        room,
+      )
+
+  pub put-before : (j : ℕ) → j < from → at put j ≡ at old j
+  put-before j h = get_or-append (take from old) (ys ++ drop k (drop from old)) 0 j (omega (arith, front)) ∙ get_or-take from old j 0 h
+
+  -- and has the word's behind them
+  pub put-bytes : (r : ℕ) → r < 8 → at put (from + r) ≡ byte_of x r
+  put-bytes r h =
+      ap (λ (i : ℕ). at put (i + r)) (sym front)
+      ∙ get_or-append-add (take from old) (ys ++ drop k (drop from old)) r 0
+      ∙ get_or-append ys (drop k (drop from old)) 0 r (omega (arith, bytes))
+      ∙ ap (λ (l : List ℕ). at l r) e
+      ∙ low-byte 0 8 x r h
+      ∙ ap (byte_of x) (omega arith)
 
 -- all of them
 pub laid-all : (P x bs : List ℕ) → length bs ≡ 1024 → ((k : ℕ) → k < 128 → at x k ≡ wide_of (plane_value P (k % 16)) (k / 16))

@@ -32,10 +32,8 @@ fn widen_some(planes: &[u64; 96], s: usize, sums: &mut [u64; 128])
     requires { (s < 8) × (length sums.old ≡ 128) × ((k : ℕ) → k < 16 * s → at sums.old k ≡ wide_of (plane_value planes.now (k % 16)) (k / 16)) }
     ensures { (length sums.new ≡ 128) × ((k : ℕ) → k < 16 * s + 16 → at sums.new k ≡ wide_of (plane_value planes.now (k % 16)) (k / 16)) }
 {
-    let mut w = 0;
-    while w < 16 {
+    for w in 0..16 {
         sums[16 * s + w] = wide(planes, w, s);
-        w += 1;
     }
 }
 
@@ -44,10 +42,8 @@ fn widen(planes: &[u64; 96], sums: &mut [u64; 128])
     requires { length sums.old ≡ 128 }
     ensures { (length sums.new ≡ 128) × ((k : ℕ) → k < 128 → at sums.new k ≡ wide_of (plane_value planes.now (k % 16)) (k / 16)) }
 {
-    let mut s = 0;
-    while s < 8 {
+    for s in 0..8 {
         widen_some(planes, s, sums);
-        s += 1;
     }
 }
 
@@ -56,11 +52,7 @@ fn put_word(x: u64, from: usize, bytes: &mut [u8; 1024])
     requires { (from + 8 ≤ 1024) × (length bytes.old ≡ 1024) }
     ensures { (length bytes.new ≡ 1024) × ((j : ℕ) → j < from → at bytes.new j ≡ at bytes.old j) × ((r : ℕ) → r < 8 → at bytes.new (from + r) ≡ byte_of x r) }
 {
-    let mut r = 0;
-    while r < 8 {
-        bytes[from + r] = ((x >> (8 * r)) % 256) as u8;
-        r += 1;
-    }
+    bytes[from..from + 8].copy_from_slice(&x.to_le_bytes());
 }
 
 // Writes the numbers of the planes as bytes. Only this repository's crates call it.
@@ -70,9 +62,7 @@ pub fn lay(planes: &[u64; 96], bytes: &mut [u8; 1024])
 {
     let mut sums = [0u64; 128];
     widen(planes, &mut sums);
-    let mut q = 0;
-    while q < 128 {
+    for q in 0..128 {
         put_word(sums[q], 8 * q, bytes);
-        q += 1;
     }
 }

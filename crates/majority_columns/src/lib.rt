@@ -15,11 +15,9 @@ fn odd_rows(index: &[u16], from: usize, count: usize, parity: &[u8; 1023]) -> u8
     ensures { result ≡ ones_at index.now from count (at parity.now) }
 {
     let mut v: u8 = 0;
-    let mut k = 0;
-    while k < count {
+    for k in 0..count {
         let i = index[from + k] as usize;
         v += parity[i];
-        k += 1;
     }
     v
 }
@@ -47,13 +45,12 @@ fn votes_on(index: &[u16], n: usize, j: usize, parity: &[u8; 1023]) -> u8
 
 // The votes on the first n bits. The cells past them stay.
 // Only this repository's crates call it, with the index of an accepted matrix and the parities of a word.
+#[tactic(auto, using(counting::proofs::Loops::over_start, counting::proofs::Loops::over_step))]
 pub fn tally_columns(index: &[u16], n: usize, parity: &[u8; 1023], votes: &mut [u8])
     requires { Columns index.now n × FewRows index.now n × Bits parity.now × (length votes.old ≡ 1023) }
     ensures { votes.new ≡ over (listed n (column_votes index.now n (at parity.now))) votes.old }
 {
-    let mut j = 0;
-    while j < n {
+    for j in 0..n {
         votes[j] = votes_on(index, n, j, parity);
-        j += 1;
     }
 }

@@ -20,15 +20,46 @@ fn voted(weight: u16, v: u8, b: u8) -> u8
     b ^ (turns as u8)
 }
 
+// How many checks each bit is in.
+pub trait Weights {
+    ghost weight: { Self → ℕ → ℕ };
+
+    fn weight(&self, j: usize) -> u16
+        requires { j < 1023 }
+        ensures { result ≡ weight self.now j };
+}
+
+// Each bit has a number of its own.
+impl Weights for [u16; 1023] {
+    ghost weight = { at };
+
+    fn weight(&self, j: usize) -> u16 {
+        self[j]
+    }
+}
+
+// All bits are in gamma checks, with no array of weights to fill and to read.
+#[derive(Clone, Copy, Debug, PartialEq, Eq)]
+pub struct Equal {
+    gamma: u16,
+}
+
+impl Weights for Equal {
+    ghost weight = { λ e. always e.gamma };
+
+    #[tactic(auto, unfolding(matrix_degrees::specs::Degrees::always))]
+    fn weight(&self, _j: usize) -> u16 {
+        self.gamma
+    }
+}
+
 // The first n bits after the vote.
-fn flip_front(votes: &[u8; 1023], weights: &[u16; 1023], n: usize, bits: &mut [u8])
+fn flip_front<W: Weights>(votes: &[u8; 1023], weights: &W, n: usize, bits: &mut [u8])
     requires { (n ≤ 1023) × (length bits.old ≡ 1023) × ((j : ℕ) → j < n → at bits.old j < 2) }
-    ensures { VotedBits n (at weights.now) votes.now bits.old bits.new }
+    ensures { VotedBits n (W.weight weights.now) votes.now bits.old bits.new }
 {
-    let mut j = 0;
-    while j < n {
-        bits[j] = voted(weights[j], votes[j], bits[j]);
-        j += 1;
+    for j in 0..n {
+        bits[j] = voted(weights.weight(j), votes[j], bits[j]);
     }
 }
 
@@ -38,29 +69,15 @@ pub fn flip_all(shape: Shape, votes: &[u8; 1023], weights: &[u16; 1023], bits: &
     requires { (shape.n ≤ 1023) × ((j : ℕ) → j < shape.n → at bits.old j < 2) }
     ensures { VotedBits shape.n (at weights.now) votes.now bits.old bits.new }
 {
-    let n = shape.n as usize;
-    flip_front(votes, weights, n, bits);
+    flip_front(votes, weights, shape.n as usize, bits);
 }
 
-// The first n bits after the vote, each being in gamma checks.
-fn flip_front_equal(votes: &[u8; 1023], n: usize, gamma: u16, bits: &mut [u8])
-    requires { (n ≤ 1023) × (length bits.old ≡ 1023) × ((j : ℕ) → j < n → at bits.old j < 2) }
-    ensures { VotedBits n (always gamma) votes.now bits.old bits.new }
-{
-    let mut j = 0;
-    while j < n {
-        bits[j] = voted(gamma, votes[j], bits[j]);
-        j += 1;
-    }
-}
-
-// Every bit after the vote where all columns weigh gamma: as above, with no array of weights to fill and to read.
+// Every bit after the vote where all columns weigh gamma.
 // Only this repository's crates call it, after the check.
 pub fn flip_equal(shape: Shape, votes: &[u8; 1023], bits: &mut [u8; 1023])
     requires { (shape.n ≤ 1023) × ((j : ℕ) → j < shape.n → at bits.old j < 2) }
     ensures { VotedBits shape.n (always shape.gamma) votes.now bits.old bits.new }
 {
-    let n = shape.n as usize;
-    let gamma = shape.gamma;
-    flip_front_equal(votes, n, gamma, bits);
+    let equal = Equal { gamma: shape.gamma };
+    flip_front(votes, &equal, shape.n as usize, bits);
 }

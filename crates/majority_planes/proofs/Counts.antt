@@ -5,16 +5,12 @@
 --   EightWords     == words that are those of eight listed sets
 --   eight-listed   == eight sets' words added are eight sets counted
 --   count_next     == eight sets more
---   planes-none    == no word is counted yet
---   planes-pair    == two words more
---   planes-all     == all sixteen
 --   six-put        == six stores put a word of each plane
 -- Assumes nothing.
 use mathlib.Core.Path.{◌≡◌, refl, sym, ap, ◌∙◌}
 use mathlib.Core.List.{List}
 use Prim.Native.Nat.{ℕ, ◌+◌, ◌*◌, ◌%◌, ◌<◌, ◌≤◌}
-use native.Mathlib.Nat.{not-suc-le-zero, add_assoc, add-zero, div-eq_of_lt}
-use native.Mathlib.Decide.{ℕ_discrete}
+use native.Mathlib.Nat.{add_assoc, add-zero, div-eq_of_lt}
 use native.Mathlib.Omega.{arith}
 use lib.ListN.{length, set, length-set}
 use lib.Pow.{pow_pos}
@@ -23,17 +19,17 @@ use Rattle.counting.specs.Digits.{binary_digit}
 use Rattle.counting.specs.Paper.Sum.{sum_below}
 use Rattle.counting.specs.Places.{at}
 use Rattle.counting.proofs.Sums.{sum-append, sum-cong, sum-part}
-use Rattle.majority_planes.specs.Planes.{six_digits, plane_value, sets_count, SetsAt, SixDigits, PlanesLaid}
-use Rattle.majority_planes.specs.Adders.{eight_bits, Grown, PlanePut, PlanesTo}
+use Rattle.majority_planes.specs.Planes.{six_digits, plane_value, sets_count, SetsAt, SixDigits}
+use Rattle.majority_planes.specs.Adders.{eight_bits, Grown, PlanePut}
 
 -- ---- digits
 
 none-digit : (t : ℕ) → binary_digit 0 t ≡ 0
 none-digit t = ap (λ (y : ℕ). y % 2) (div-eq_of_lt (pow_pos t))
 
-pub none-six : (t : ℕ) → six_digits 0 0 0 0 0 0 t ≡ 0
+pub none-six : (a b c d e f : ℕ) → a ≡ 0 → b ≡ 0 → c ≡ 0 → d ≡ 0 → e ≡ 0 → f ≡ 0 → (t : ℕ) → six_digits a b c d e f t ≡ 0
 unfolding six_digits
-none-six t = rw (none-digit t) refl
+none-six a b c d e f ha hb hc hd he hf t = rw (ha, hb, hc, hd, he, hf, none-digit t) refl
 
 -- ---- sets that are counted
 
@@ -106,32 +102,6 @@ count_next x l from q k w six lw lq f h so g t lt =
     let more = count-more x l from q w t in
     let few = count-part x l from (8 * (q + 1)) (8 * k) w t (omega arith) in
     omega (arith, g t (omega (arith, so t lt, more, few, six w t lw lt)), so t lt, more)
-
--- ---- planes
-
-module _ (x l : List ℕ) (from k : ℕ) where
-  pub planes-none : (P : List ℕ) → length P ≡ 96 → PlanesTo (2 * 0) x l from k P
-  planes-none P e = record { long = e; each = λ w t h. absurd (not-suc-le-zero h) }
-
-  pub planes-pair : (w : ℕ) (f g : ℕ → ℕ) (P Q R : List ℕ) → w + 2 ≤ 16 → PlanesTo w x l from k P → PlanePut w f P Q → PlanePut (w + 1) g Q R
-      → ((t : ℕ) → t < 64 → f t ≡ sets_count x l from k w t) → ((t : ℕ) → t < 64 → g t ≡ sets_count x l from k (w + 1) t)
-      → PlanesTo (w + 2) x l from k R
-  planes-pair w f g P Q R room p q r first second =
-      record {
-        long = r.long;
-        each = λ v t h u. elim (ℕ_discrete v (w + 1)) [
-          | yes e ↦ rw e (r.here t ∙ second t u)
-          | no n ↦
-              r.there v t (omega arith) n
-              ∙ elim (ℕ_discrete v w) [
-                | yes e ↦ rw e (q.here t ∙ first t u)
-                | no m ↦ q.there v t (omega arith) m ∙ p.each v t (omega arith) u
-              ]
-        ];
-      }
-
-  pub planes-all : (P : List ℕ) → PlanesTo 16 x l from k P → PlanesLaid x l from k P
-  planes-all P p = record { long = p.long; each = p.each }
 
 -- ---- six stores
 

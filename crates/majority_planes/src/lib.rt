@@ -8,7 +8,7 @@ ghost use Rattle.majority_planes.specs.Planes.{six_digits, sets_count, SetsAt, S
 ghost use Rattle.majority_planes.specs.Adders.{odd_of, most_of, eight_bits, Grown, PlanePut, PlanesTo};
 
 // A word of each of six planes, the lowest digits first.
-#[derive(Clone, Copy)]
+#[derive(Clone, Copy, Default)]
 struct Digits {
     a: u64,
     b: u64,
@@ -123,27 +123,12 @@ fn count_pair(
     requires { (from + 8 * eights ≤ 1023) × (w + 2 ≤ 16) × SetsAt sets.now rows.now (from + 8 * eights) × SixDigits sets.now rows.now from (8 * eights) × PlanesTo w sets.now rows.now from (8 * eights) planes.old }
     ensures { PlanesTo (w + 2) sets.now rows.now from (8 * eights) planes.new }
 {
-    let mut p = Digits {
-        a: 0,
-        b: 0,
-        c: 0,
-        d: 0,
-        e: 0,
-        f: 0,
-    };
-    let mut r = Digits {
-        a: 0,
-        b: 0,
-        c: 0,
-        d: 0,
-        e: 0,
-        f: 0,
-    };
-    let mut q = 0;
-    while q < eights {
+    let none = Digits::default();
+    let mut p = none;
+    let mut r = none;
+    for q in 0..eights {
         p = add_listed(sets, rows, from + 8 * q, w, p);
         r = add_listed(sets, rows, from + 8 * q, w + 1, r);
-        q += 1;
     }
     put(p, w, planes);
     put(r, w + 1, planes);
@@ -155,9 +140,7 @@ pub fn count(sets: &[u64], rows: &[u16; 1023], from: usize, eights: usize, plane
     requires { (from + 8 * eights ≤ 1023) × SetsAt sets.now rows.now (from + 8 * eights) × SixDigits sets.now rows.now from (8 * eights) × (length planes.old ≡ 96) }
     ensures { PlanesLaid sets.now rows.now from (8 * eights) planes.new }
 {
-    let mut h = 0;
-    while h < 8 {
+    for h in 0..8 {
         count_pair(sets, rows, from, eights, 2 * h, planes);
-        h += 1;
     }
 }

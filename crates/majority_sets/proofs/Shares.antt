@@ -2,9 +2,7 @@
 --   sets-there        == the sets of the listed rows stand in the memory
 --   sets-six          == their counts have six digits
 --   first-parts       == the first of the listed rows are rows of the list
---   first-room, rest-room     == votes that have room for all have it for the first, and then for the others
---   first-there, rest-there   == votes that have all have the first, and then the others
---   both-more, both_fewer     == the first and the others added or taken are all
+--   all-votes         == the votes of all are those of the first and of the others
 -- Assumes nothing.
 use mathlib.Core.Path.{◌≡◌, refl, sym, ap, ◌∙◌}
 use mathlib.Core.List.{List}
@@ -20,7 +18,7 @@ use Rattle.matrix.specs.Paper.PlainCheck.{Accepted}
 use Rattle.matrix.proofs.Rows.{has-outside}
 use Rattle.matrix_rows.specs.Rows.{word_of, place_of, column_at, RowSets}
 use Rattle.matrix_rows.proofs.Shares.{word-is, place_is}
-use Rattle.majority_votes.specs.Tallies.{of_rows, ListedRows, Addable, More, Takeable, Fewer}
+use Rattle.majority_votes.specs.Tallies.{of_rows, ListedRows}
 use Rattle.majority_planes.specs.Planes.{sets_count, SetsAt, SixDigits}
 use Rattle.majority_sets.specs.Sets.{listed_votes, VotesFew}
 
@@ -88,27 +86,5 @@ module _ (H : Matrix) (a : Accepted H) (x : List ℕ) (s : RowSets H x) (l : Lis
       }
 
   -- all of them are the first and the others
-  all-votes : (j : ℕ) → of_rows H.list H.rho l t j ≡ of_rows H.list H.rho l (t % 8) j + listed_votes H.n x l (t % 8) (8 * (t / 8)) j
+  pub all-votes : (j : ℕ) → of_rows H.list H.rho l t j ≡ of_rows H.list H.rho l (t % 8) j + listed_votes H.n x l (t % 8) (8 * (t / 8)) j
   all-votes j = in_parts j ∙ ap (λ (y : ℕ). of_rows H.list H.rho l (t % 8) j + y) (others-votes j)
-
-  module _ (v : List ℕ) (room : Addable (of_rows H.list H.rho l t) v) where
-    pub first-room : Addable (of_rows H.list H.rho l (t % 8)) v
-    first-room = record { long = room.long; fits = λ j. omega (arith, room.fits j, all-votes j) }
-
-    module _ (mid : List ℕ) (m : More (of_rows H.list H.rho l (t % 8)) v mid) where
-      pub rest-room : Addable (listed_votes H.n x l (t % 8) (8 * (t / 8))) mid
-      rest-room = record { long = m.long; fits = λ j. omega (arith, room.fits j, all-votes j, m.each j) }
-
-      pub both-more : (new : List ℕ) → More (listed_votes H.n x l (t % 8) (8 * (t / 8))) mid new → More (of_rows H.list H.rho l t) v new
-      both-more new o = record { long = o.long; each = λ j. omega (arith, all-votes j, m.each j, o.each j) }
-
-  module _ (v : List ℕ) (there : Takeable (of_rows H.list H.rho l t) v) where
-    pub first-there : Takeable (of_rows H.list H.rho l (t % 8)) v
-    first-there = record { long = there.long; there = λ j. omega (arith, there.there j, all-votes j) }
-
-    module _ (mid : List ℕ) (m : Fewer (of_rows H.list H.rho l (t % 8)) v mid) where
-      pub rest-there : Takeable (listed_votes H.n x l (t % 8) (8 * (t / 8))) mid
-      rest-there = record { long = m.long; there = λ j. omega (arith, there.there j, all-votes j, m.each j) }
-
-      pub both_fewer : (new : List ℕ) → Fewer (listed_votes H.n x l (t % 8) (8 * (t / 8))) mid new → Fewer (of_rows H.list H.rho l t) v new
-      both_fewer new o = record { long = o.long; each = λ j. omega (arith, all-votes j, m.each j, o.each j) }

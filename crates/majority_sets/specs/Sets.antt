@@ -1,5 +1,6 @@
 -- Votes of listed checks by their rows as sets of columns.
 --   listed_votes n x l from k j   == how many of k listed sets, from a place of the list on, have column j of n
+--   first_bytes n bs j            == byte j of the first n, and 0 past them
 --   BytesCount x l from k bs      == byte j is in how many of them column j stands
 --   VotesFew H l t                == the first t of l are rows of the matrix, and no bit has more than 63 votes of theirs
 -- Assumes nothing.
@@ -12,6 +13,9 @@ use Rattle.majority_planes.specs.Planes.{sets_count}
 
 unfoldable pub listed_votes : ℕ → List ℕ → List ℕ → ℕ → ℕ → ℕ → ℕ
 listed_votes n x l from k j = cond (ltb j n) (sets_count x l from k (word_of j) (place_of j)) 0
+
+unfoldable pub first_bytes : ℕ → List ℕ → ℕ → ℕ
+first_bytes n bs j = cond (ltb j n) (at bs j) 0
 
 pub record BytesCount (x l : List ℕ) (from k : ℕ) (bs : List ℕ) : Type 0 where
   pub long : length bs ≡ 1024

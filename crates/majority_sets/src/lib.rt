@@ -2,16 +2,15 @@
 // Rests on `majority_planes`, `majority_bytes`, `majority_votes` and on the definitions of `matrix_rows`. Document 01: "Iterative voting", step 4.
 #![tactic(auto)]
 
-ghost use Rattle.std.specs.Prelude.{◌≡◌, ℕ, ◌+◌, ◌-◌, ◌*◌, ◌≤◌, ◌<◌, length};
-ghost use Rattle.counting.specs.Paper.Lists.{listed, over};
-ghost use Rattle.counting.specs.Places.{at};
+ghost use Rattle.std.specs.Prelude.{◌≡◌, ◌+◌, ◌*◌, ◌≤◌, length};
 ghost use Rattle.matrix.specs.Paper.PlainCheck.{Accepted};
 ghost use Rattle.matrix.specs.Paper.Shapes.{matrix_of};
 ghost use Rattle.matrix_rows.specs.Rows.{RowSets};
 ghost use Rattle.majority_votes.specs.Tallies.{of_rows, Addable, More, Takeable, Fewer};
 ghost use Rattle.majority_planes.specs.Planes.{SetsAt, SixDigits};
-ghost use Rattle.majority_sets.specs.Sets.{listed_votes, BytesCount, VotesFew};
+ghost use Rattle.majority_sets.specs.Sets.{listed_votes, first_bytes, BytesCount, VotesFew};
 
+use majority_votes::{Add, Take, Turn};
 use matrix_check::Shape;
 
 // In how many of the listed supports, eight times `eights` of them from a place on, each column stands.
@@ -30,20 +29,18 @@ fn count_eights(
     majority_bytes::lay(&planes, bytes);
 }
 
-// Adds the first n bytes to the votes; those past them stay.
-fn add_bytes(n: usize, bytes: &[u8; 1024], votes: &mut [u8; 1023])
-    requires { (n ≤ 1023) × (length votes.old ≡ 1023) × ((j : ℕ) → j < n → at votes.old j + at bytes.now j ≤ 255) }
-    ensures { votes.new ≡ over (listed n (λ j. at votes.old j + at bytes.now j)) votes.old }
+// Turns the votes by the first n bytes; those past them stay.
+fn turn_bytes<T: Turn>(n: usize, bytes: &[u8; 1024], votes: &mut [u8; 1023])
+    requires { (n ≤ 1023) × T.room (first_bytes n bytes.now) votes.old }
+    ensures { T.turned (first_bytes n bytes.now) votes.old votes.new }
 {
-    let mut j = 0;
-    while j < n {
-        votes[j] += bytes[j];
-        j += 1;
+    for j in 0..n {
+        votes[j] = T::turn(votes[j], bytes[j]);
     }
 }
 
-// Adds the votes of eight times `eights` listed supports, from a place on.
-fn add_eights(
+// Turns the votes of eight times `eights` listed supports, from a place on.
+fn turn_eights<T: Turn>(
     n: usize,
     supports: &[u64],
     rows: &[u16; 1023],
@@ -51,44 +48,39 @@ fn add_eights(
     eights: usize,
     votes: &mut [u8; 1023],
 )
-    requires { (n ≤ 1023) × (from + 8 * eights ≤ 1023) × SetsAt supports.now rows.now (from + 8 * eights) × SixDigits supports.now rows.now from (8 * eights) × Addable (listed_votes n supports.now rows.now from (8 * eights)) votes.old }
-    ensures { More (listed_votes n supports.now rows.now from (8 * eights)) votes.old votes.new }
+    requires { (n ≤ 1023) × (from + 8 * eights ≤ 1023) × SetsAt supports.now rows.now (from + 8 * eights) × SixDigits supports.now rows.now from (8 * eights) × T.room (listed_votes n supports.now rows.now from (8 * eights)) votes.old }
+    ensures { T.turned (listed_votes n supports.now rows.now from (8 * eights)) votes.old votes.new }
 {
     let mut bytes = [0u8; 1024];
     count_eights(supports, rows, from, eights, &mut bytes);
-    add_bytes(n, &bytes, votes);
+    turn_bytes::<T>(n, &bytes, votes);
 }
 
-// Takes the first n bytes from the votes; those past them stay.
-fn take_bytes(n: usize, bytes: &[u8; 1024], votes: &mut [u8; 1023])
-    requires { (n ≤ 1023) × (length votes.old ≡ 1023) × ((j : ℕ) → j < n → at bytes.now j ≤ at votes.old j) }
-    ensures { votes.new ≡ over (listed n (λ j. at votes.old j - at bytes.now j)) votes.old }
-{
-    let mut j = 0;
-    while j < n {
-        votes[j] -= bytes[j];
-        j += 1;
-    }
-}
-
-// Takes the votes of eight times `eights` listed sets away.
-fn take_eights(
-    n: usize,
+// One turn at each column of each listed row. Which way is taken is a matter of speed alone.
+// Only this repository's crates call it, with the sets of an accepted matrix and rows of it.
+pub fn turn<T: Turn>(
+    shape: Shape,
+    list: &[u16],
     supports: &[u64],
     rows: &[u16; 1023],
-    from: usize,
-    eights: usize,
+    count: usize,
     votes: &mut [u8; 1023],
 )
-    requires { (n ≤ 1023) × (from + 8 * eights ≤ 1023) × SetsAt supports.now rows.now (from + 8 * eights) × SixDigits supports.now rows.now from (8 * eights) × Takeable (listed_votes n supports.now rows.now from (8 * eights)) votes.old }
-    ensures { Fewer (listed_votes n supports.now rows.now from (8 * eights)) votes.old votes.new }
+    requires { Accepted (matrix_of shape list.now) × RowSets (matrix_of shape list.now) supports.now × VotesFew (matrix_of shape list.now) rows.now count × T.room (of_rows list.now shape.rho rows.now count) votes.old }
+    ensures { T.turned (of_rows list.now shape.rho rows.now count) votes.old votes.new }
 {
-    let mut bytes = [0u8; 1024];
-    count_eights(supports, rows, from, eights, &mut bytes);
-    take_bytes(n, &bytes, votes);
+    let n = shape.n as usize;
+    let rho = shape.rho as usize;
+    if (rho < 24) | (count < 32) {
+        majority_votes::turn_rows::<T>(list, rho, rows, count, votes);
+        return;
+    }
+    let rest = count % 8;
+    majority_votes::turn_rows::<T>(list, rho, rows, rest, votes);
+    turn_eights::<T>(n, supports, rows, rest, count / 8, votes);
 }
 
-// A vote more at each column of each listed row. Which way is taken is a matter of speed alone.
+// A vote more at each column of each listed row.
 // Only this repository's crates call it, with the sets of an accepted matrix and rows of it.
 pub fn add(
     shape: Shape,
@@ -101,18 +93,10 @@ pub fn add(
     requires { Accepted (matrix_of shape list.now) × RowSets (matrix_of shape list.now) supports.now × VotesFew (matrix_of shape list.now) rows.now count × Addable (of_rows list.now shape.rho rows.now count) votes.old }
     ensures { More (of_rows list.now shape.rho rows.now count) votes.old votes.new }
 {
-    let n = shape.n as usize;
-    let rho = shape.rho as usize;
-    if (rho < 24) | (count < 32) {
-        majority_votes::add_rows(list, rho, rows, count, votes);
-        return;
-    }
-    let rest = count % 8;
-    majority_votes::add_rows(list, rho, rows, rest, votes);
-    add_eights(n, supports, rows, rest, count / 8, votes);
+    turn::<Add>(shape, list, supports, rows, count, votes);
 }
 
-// A vote less at each column of each listed row. Which way is taken is a matter of speed alone.
+// A vote less at each column of each listed row.
 // Only this repository's crates call it, with the sets of an accepted matrix and rows of it.
 pub fn take(
     shape: Shape,
@@ -125,13 +109,5 @@ pub fn take(
     requires { Accepted (matrix_of shape list.now) × RowSets (matrix_of shape list.now) supports.now × VotesFew (matrix_of shape list.now) rows.now count × Takeable (of_rows list.now shape.rho rows.now count) votes.old }
     ensures { Fewer (of_rows list.now shape.rho rows.now count) votes.old votes.new }
 {
-    let n = shape.n as usize;
-    let rho = shape.rho as usize;
-    if (rho < 24) | (count < 32) {
-        majority_votes::take_rows(list, rho, rows, count, votes);
-        return;
-    }
-    let rest = count % 8;
-    majority_votes::take_rows(list, rho, rows, rest, votes);
-    take_eights(n, supports, rows, rest, count / 8, votes);
+    turn::<Take>(shape, list, supports, rows, count, votes);
 }

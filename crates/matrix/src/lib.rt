@@ -7,7 +7,7 @@ ghost use Rattle.matrix.specs.Ordered.{Ordered, Column};
 ghost use Rattle.matrix.specs.Paper.Shapes.{matrix_of};
 
 // The sizes of a matrix: columns, rows, ones in each row, fewest ones in a column.
-#[derive(Clone, Copy)]
+#[derive(Clone, Copy, Debug, PartialEq, Eq)]
 pub struct Shape {
     pub n: u16,
     pub m: u16,
@@ -16,6 +16,7 @@ pub struct Shape {
 }
 
 // The k-th column number of row i. Only this repository's crates call it, after asking refusals 1 to 3.
+#[tactic(auto, using(crate::proofs::Ordered::in_list, crate::proofs::Ordered::few), unfolding(crate::specs::Paper::Code::entry))]
 pub fn column(shape: Shape, list: &[u16], i: usize, k: usize) -> usize
     requires { Ordered (matrix_of shape list.now) × (i < shape.m) × (k < shape.rho) }
     ensures { Column (matrix_of shape list.now) i k result }

@@ -8,22 +8,9 @@ ghost use Rattle.counting.specs.Places.{at};
 ghost use Rattle.matrix.specs.Paper.PlainCheck.{Accepted};
 ghost use Rattle.matrix.specs.Paper.Shapes.{matrix_of};
 ghost use Rattle.matrix_columns.specs.Columns.{columns_size, columns_of};
-ghost use Rattle.matrix_columns.specs.Filling.{blank, entry_put, row_put, RowFits};
+ghost use Rattle.matrix_columns.specs.Filling.{entry_put, row_put, RowFits};
 
-use matrix::column;
 use matrix_check::Shape;
-
-// Clears the first cells; those past them stay.
-fn clear(size: usize, columns: &mut [u64])
-    requires { (size ≤ 17391) × (size ≤ length columns.old) }
-    ensures { columns.new ≡ over (listed size blank) columns.old }
-{
-    let mut t = 0;
-    while t < size {
-        columns[t] = 0;
-        t += 1;
-    }
-}
 
 // Adds row i to the set of column j of n, and counts it in the column's weight.
 fn place_entry(n: usize, i: usize, j: usize, columns: &mut [u64])
@@ -43,10 +30,8 @@ fn place_row(shape: Shape, list: &[u16], i: usize, columns: &mut [u64])
 {
     let n = shape.n as usize;
     let rho = shape.rho as usize;
-    let mut k = 0;
-    while k < rho {
-        place_entry(n, i, column(shape, list, i, k), columns);
-        k += 1;
+    for j in &list[i * rho..i * rho + rho] {
+        place_entry(n, i, *j as usize, columns);
     }
 }
 
@@ -58,11 +43,9 @@ pub fn build(shape: Shape, list: &[u16], columns: &mut [u64])
 {
     let n = shape.n as usize;
     let m = shape.m as usize;
-    clear(17 * n, columns);
-    let mut i = 0;
-    while i < m {
+    columns[..17 * n].fill(0);
+    for i in 0..m {
         place_row(shape, list, i, columns);
-        i += 1;
     }
 }
 
@@ -72,10 +55,7 @@ pub fn weigh(columns: &[u64], n: usize, weights: &mut [u8; 1023])
     requires { (n ≤ 1023) × (17 * n ≤ length columns.now) × ((j : ℕ) → j < n → at columns.now (16 * n + j) ≤ 255) × (length weights.old ≡ 1023) }
     ensures { weights.new ≡ over (listed n (λ j. at columns.now (16 * n + j))) weights.old }
 {
-    let mut j = 0;
-    while j < n {
-        let x = columns[16 * n + j];
-        weights[j] = x as u8;
-        j += 1;
+    for j in 0..n {
+        weights[j] = columns[16 * n + j] as u8;
     }
 }

@@ -1,28 +1,31 @@
 -- Laws of the columns' weights in an array.
 --   weighed              == an array in which the weights are written has them
---   always-is, gap_is    == the values as the code has them
+--   gap_is               == a gap as the code has it
+--   filled               == what a fill of the first cells writes
 --   cleared              == cells filled with 0 are cleared
 --   came-le              == no number stands more often in a part of a list than the part is long
 --   counted_none         == nothing is counted yet
+--   counted_room         == a cell that began at 0 has room for one more
 --   counted_next         == one number more is counted
 --   entry-low            == an entry of an accepted matrix is a column
 --   filled-equal         == where all columns weigh gamma, cells filled with gamma have the weights
 --   counted-weights      == the list counted in cleared cells gives the weights; the other cells stay
 -- Assumes nothing.
 use mathlib.Core.Path.{◌≡◌, refl, sym, ap, ◌∙◌}
-use mathlib.Core.List.{List}
+use mathlib.Core.List.{List, ◌++◌}
 use mathlib.Core.Logic.{inl, inr}
 use Prim.Native.Nat.{ℕ, ◌+◌, ◌*◌, ◌-◌, ◌≤◌, ◌<◌}
-use native.Mathlib.Nat.{mul-one}
+use native.Mathlib.Nat.{mul-one, min-eq_left}
 use native.Mathlib.Numerals.{add-one}
 use native.Mathlib.Decide.{dec_lt}
 use native.Mathlib.Omega.{arith}
-use lib.ListN.{length, set, length-set}
+use lib.ListN.{length, set, length-set, replicate, drop, take, length-take}
 use lib.Seq.{ext_get_or}
 use Rattle.counting.specs.Paper.Sum.{sum_below, same}
 use Rattle.counting.specs.Paper.Lists.{listed, over}
 use Rattle.counting.specs.Places.{at}
 use Rattle.counting.proofs.Sums.{sum_bound, same-le, same_refl, same-ne}
+use Rattle.counting.proofs.Loops.{over_fill}
 use Rattle.counting.proofs.Writes.{listed-cong, stored, over-at, over-rest, over-long}
 use Rattle.matrix.specs.Paper.Code.{Matrix, weight}
 use Rattle.matrix.specs.Paper.PlainCheck.{Accepted}
@@ -36,14 +39,15 @@ use Rattle.matrix_degrees.specs.Degrees.{gap, always, came, Counted}
 pub weighed : (H : Matrix) (w old : List ℕ) → w ≡ over (listed H.n (weight H)) old → Weighed H w
 weighed H w old e = over-at H.n (weight H) old w e 0
 
--- the values as the code has them
-pub always-is : (x j : ℕ) → x ≡ always x j
-unfolding always
-always-is x j = refl
-
+-- a gap as the code has it
 pub gap_is : (x : List ℕ) (j : ℕ) → at x (j + 1) - at x j ≡ gap x j
 unfolding gap
 gap_is x j = refl
+
+-- the first n cells filled with x, and those behind them
+pub filled : (n x : ℕ) (old new : List ℕ) → n ≤ length old → new ≡ replicate (length (take n old)) x → new ++ drop n old ≡ over (listed n (always x)) old
+unfolding always
+filled n x old new h e = rw (e, length-take n old, min-eq_left h) (over_fill n x old)
 
 -- cells filled with 0 are cleared
 pub cleared : (n : ℕ) (old new : List ℕ) → new ≡ over (listed n (always 0)) old → (j : ℕ) → j < n → at new j ≡ 0
@@ -75,11 +79,14 @@ module _ (l : List ℕ) where
   unfolding came sum_below
   counted_none old = record { long = refl; each = λ j. omega arith }
 
+  -- there is room for one more in a cell that began at 0
+  pub counted_room : (p : ℕ) (old new : List ℕ) → Counted l p old new → p < 65535 → at old (at l p) ≡ 0 → at new (at l p) < 65535
+  counted_room p old new t h e = omega (arith, t.each (at l p), came-le p (at l p))
+
   -- one number more is counted
-  pub counted_next : (p : ℕ) (old new next : List ℕ) → at l p < length old → Counted l p old new
-      → next ≡ set new (at l p) (at new (at l p) + 1) → Counted l (p + 1) old next
-  counted_next p old new next h t s =
-      rw s
+  pub counted_next : (p : ℕ) (old new : List ℕ) → Counted l p old new → at l p < length old
+      → Counted l (p + 1) old (set new (at l p) (at new (at l p) + 1))
+  counted_next p old new t h =
       record {
         long = length-set new (at l p) (at new (at l p) + 1) ∙ t.long;
         each = λ j. elim (stored new (at l p) (at new (at l p) + 1) j (omega (arith, t.long))) [

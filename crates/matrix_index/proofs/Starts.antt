@@ -1,4 +1,5 @@
 -- Laws of the starting places by the columns' weights: running sums.
+--   front_copied   == the front of one list, copied over the front of another
 --   sum_first      == the first starting place is 0
 --   sum_more       == the next one is further by a column's weight
 --   sum_fits       == it is no further than the last one
@@ -8,15 +9,18 @@
 --   starts-copied  == and what is copied from there over the weights
 -- Assumes nothing.
 use mathlib.Core.Path.{◌≡◌, refl, sym, ap, ◌∙◌}
-use mathlib.Core.List.{List}
+use mathlib.Core.List.{List, ◌++◌}
 use Prim.Native.Nat.{ℕ, ◌+◌, ◌≤◌, ◌<◌}
 use native.Mathlib.Numerals.{add-one}
 use native.Mathlib.Omega.{arith}
+use lib.ListN.{length, take, drop}
+use lib.Seq.{ext_get_or}
+use Rattle.std.proofs.lemmas.List.{length-take-le, get_or-take}
 use Rattle.counting.specs.Paper.Sum.{sum_below}
 use Rattle.counting.specs.Paper.Lists.{listed, over}
 use Rattle.counting.specs.Places.{at}
 use Rattle.counting.proofs.Sums.{sum-cong, sum-next}
-use Rattle.counting.proofs.Writes.{length-listed, listed-cong, over-at, over-over}
+use Rattle.counting.proofs.Writes.{length-listed, get_or-listed, listed-cong, over-at, over-over}
 use Rattle.matrix.specs.Paper.Code.{Matrix, weight}
 use Rattle.matrix.specs.Paper.PlainCheck.{Accepted}
 use Rattle.matrix.proofs.Rows.{few-entries}
@@ -24,6 +28,17 @@ use Rattle.matrix.proofs.Weights.{weights-total}
 use Rattle.matrix.specs.Tallies.{Weighed}
 use Rattle.matrix_index.specs.Paper.Index.{column_start}
 use Rattle.matrix_index.specs.Filling.{start_sum}
+
+-- the front of one list, copied over the front of another
+pub front_copied : (k : ℕ) (list old x : List ℕ) → k ≤ length list → x ≡ take k list → x ++ drop k old ≡ over (listed k (at list)) old
+unfolding over
+front_copied k list old x h e =
+    let long : length (listed k (at list)) ≡ k = length-listed k (at list) in
+    let here : length (take k list) ≡ k = length-take-le k list h in
+    let same : take k list ≡ listed k (at list) = ext_get_or 0 (take k list) (listed k (at list)) (here ∙ sym long)
+    (λ (t : ℕ) (l : t < length (take k list)). let m : t < k = omega (arith, l, here) in
+    get_or-take k list t 0 m ∙ sym (get_or-listed k (at list) t 0 m)) in
+    rw (e, same, long) refl
 
 -- the first starting place
 pub sum_first : (w : List ℕ) → 0 ≡ start_sum w 0

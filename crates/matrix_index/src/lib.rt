@@ -18,26 +18,21 @@ fn put_starts(n: usize, weights: &[u16; 1023], cells: &mut [u16])
     ensures { cells.new ≡ over (listed (n + 1) (start_sum weights.now)) cells.old }
 {
     let mut sum: u16 = 0;
-    let mut j = 0;
-    while j < n {
+    for (j, weight) in weights[..n].iter().enumerate() {
         cells[j] = sum;
-        sum += weights[j];
-        j += 1;
+        sum += *weight;
     }
     cells[n] = sum;
 }
 
 // Copies the first `count` numbers of a list. The cells past them stay.
 // Only this repository's crates call it, with a list and cells that are as long.
+#[tactic(auto, using(crate::proofs::Starts::front_copied))]
 pub fn copy_front(count: usize, list: &[u16], cells: &mut [u16])
     requires { (count ≤ length list.now) × (count ≤ length cells.old) }
     ensures { cells.new ≡ over (listed count (at list.now)) cells.old }
 {
-    let mut j = 0;
-    while j < count {
-        cells[j] = list[j];
-        j += 1;
-    }
+    cells[..count].copy_from_slice(&list[..count]);
 }
 
 // Writes row i behind the rows that stand at each of its columns, whose cursors move on.
@@ -46,14 +41,13 @@ fn place_row(shape: Shape, list: &[u16], i: usize, cursors: &mut [u16], index: &
     ensures { Passed (matrix_of shape list.now) (column_start (matrix_of shape list.now)) (i + 1) 0 cursors.old cursors.new × (index.new ≡ row_put (matrix_of shape list.now) i shape.rho index.old) }
 {
     let rho = shape.rho as usize;
-    let mut k = 0;
-    while k < rho {
-        let base = (shape.n as usize) + 1;
+    let base = (shape.n as usize) + 1;
+    // By index: each number leads to its cursor and from there into the index, and the loop is laid out for that. `matrix_index_replay::row_stands` is not the same: it only reads the index, and ends early.
+    for k in 0..rho {
         let j = list[i * rho + k] as usize;
         let c = cursors[j] as usize;
         index[base + c] = i as u16;
         cursors[j] = (c + 1) as u16;
-        k += 1;
     }
 }
 
@@ -77,9 +71,7 @@ pub fn build(shape: Shape, list: &[u16], index: &mut [u16])
     let m = shape.m as usize;
     let mut cursors = [0u16; 1023];
     set_out(shape, list, &mut cursors, index);
-    let mut i = 0;
-    while i < m {
+    for i in 0..m {
         place_row(shape, list, i, &mut cursors, index);
-        i += 1;
     }
 }

@@ -14,11 +14,11 @@ ghost use Rattle.matrix_index.specs.Paper.Index.{own_verdict};
 ghost use Rattle.matrix_index_check.specs.Agree.{gaps_in, Agree};
 ghost use Rattle.matrix_index_check.specs.Paper.Call.{indexed_verdict, IndexAnswered};
 
-use answers::{Checked, Refusal};
+use answers::Refusal;
 use matrix_check::Shape;
 
 // Refusal 10 for a lent index.
-fn ask_own(shape: Shape, list: &[u16], index: &[u16]) -> Checked
+fn ask_own(shape: Shape, list: &[u16], index: &[u16]) -> Result<(), Refusal>
     requires { Accepted (matrix_of shape list.now) }
     ensures { verdict_of result ≡ own_verdict (matrix_of shape list.now) index.now }
 {
@@ -27,13 +27,11 @@ fn ask_own(shape: Shape, list: &[u16], index: &[u16]) -> Checked
 }
 
 // What is asked of matrix and index, one after the other: the first wrong one is named.
-fn ask_apart(shape: Shape, list: &[u16], index: &[u16]) -> Checked
+fn ask_apart(shape: Shape, list: &[u16], index: &[u16]) -> Result<(), Refusal>
     ensures { verdict_of result ≡ indexed_verdict (matrix_of shape list.now) index.now accepted }
 {
-    match matrix_check::check(shape, list) {
-        Checked::Accepted => ask_own(shape, list, index),
-        Checked::Refused(f) => Checked::Refused(f),
-    }
+    matrix_check::check(shape, list)?;
+    ask_own(shape, list, index)
 }
 
 // Whether refusal 4 passes the columns' weights as the starting places of an index have them. So the list needs no pass for them.
@@ -64,7 +62,7 @@ fn agree(shape: Shape, list: &[u16], index: &[u16]) -> bool
 }
 
 // What is asked of matrix and index: 1 to 5, then 10. Where both agree refusal 5 alone is left; else what is wrong is looked for.
-pub fn check_indexed(shape: Shape, list: &[u16], index: &[u16]) -> Checked
+pub fn check_indexed(shape: Shape, list: &[u16], index: &[u16]) -> Result<(), Refusal>
     ensures { verdict_of result ≡ indexed_verdict (matrix_of shape list.now) index.now accepted }
 {
     if agree(shape, list, index) {
@@ -74,24 +72,22 @@ pub fn check_indexed(shape: Shape, list: &[u16], index: &[u16]) -> Checked
 }
 
 // Refusal 10 for a buffer too short, then the index.
-fn on_accepted(shape: Shape, list: &[u16], index: &mut [u16]) -> Checked
+fn on_accepted(shape: Shape, list: &[u16], index: &mut [u16]) -> Result<(), Refusal>
     requires { Accepted (matrix_of shape list.now) }
     ensures { IndexAnswered (matrix_of shape list.now) index.old index.new (verdict_of result) }
 {
     let size = (shape.n as usize) + 1 + (shape.m as usize) * (shape.rho as usize);
     if index.len() < size {
-        return Checked::Refused(Refusal::Index);
+        return Err(Refusal::Index);
     }
     matrix_index::build(shape, list, index);
-    Checked::Accepted
+    Ok(())
 }
 
 // The index of a matrix, at the front of a buffer. A refused call writes nothing.
-pub fn index(shape: Shape, list: &[u16], index: &mut [u16]) -> Checked
+pub fn index(shape: Shape, list: &[u16], index: &mut [u16]) -> Result<(), Refusal>
     ensures { IndexAnswered (matrix_of shape list.now) index.old index.new (verdict_of result) }
 {
-    match matrix_check::check(shape, list) {
-        Checked::Accepted => on_accepted(shape, list, index),
-        Checked::Refused(f) => Checked::Refused(f),
-    }
+    matrix_check::check(shape, list)?;
+    on_accepted(shape, list, index)
 }

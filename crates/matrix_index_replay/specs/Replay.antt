@@ -1,5 +1,4 @@
 -- A lent index compared with an ordered matrix, number by number, whatever its columns weigh.
---   wrong_ends c x k          == how many of the first k cursors c are not where by x the next column starts
 --   Stands H x i k            == row i stands in x at the place of its k-th entry, counted from x's own starting places
 --   RowStands H x i           == it does at those of all of its entries
 --   Parts H x                 == each column's part in x is as long as the column has ones
@@ -9,15 +8,10 @@
 --   Replayed H x r            == r says whether x is the matrix's own
 -- proofs/Own.antt shows that of an accepted matrix `index_of H` alone is its own. Assumes nothing.
 use Rattle.std.specs.Prelude.{ℕ, ◌+◌, ◌<◌, ◌≡◌, Bool, true, false, List, length}
-use Rattle.counting.specs.Paper.Sum.{sum_below, unequal}
 use Rattle.counting.specs.Places.{at}
 use Rattle.matrix.specs.Paper.Code.{Matrix, weight}
 use Rattle.matrix_index.specs.Paper.Index.{index_size}
 use Rattle.matrix_index.specs.Filling.{place_by, Passed}
-
--- how many of the first k cursors are not where the next column starts
-unfoldable pub wrong_ends : List ℕ → List ℕ → ℕ → ℕ
-wrong_ends c x k = sum_below k (λ j. unequal (at c j) (at x (j + 1)))
 
 -- row i stands where it goes for its k-th entry
 pub record Stands (H : Matrix) (x : List ℕ) (i k : ℕ) : Type 0 where

@@ -5,46 +5,21 @@
 #![tactic(auto)]
 
 ghost use Rattle.std.specs.Prelude.{◌≤◌, ◌<◌, ◌&&◌, ◌≡◌, ltb, eqb, length};
-ghost use Rattle.counting.specs.Paper.Sum.{unequal};
 ghost use Rattle.counting.specs.Places.{at};
 ghost use Rattle.matrix.specs.Paper.Code.{matrix};
 ghost use Rattle.matrix.specs.Ordered.{Ordered};
 ghost use Rattle.matrix.specs.Paper.Shapes.{matrix_of};
 ghost use Rattle.matrix_index.specs.Paper.Index.{index_size};
 ghost use Rattle.matrix_index.specs.Filling.{Cursors};
-ghost use Rattle.matrix_index_replay.specs.Replay.{wrong_ends, RowReplayed, RowsReplayed, Replayed};
+ghost use Rattle.matrix_index_replay.specs.Replay.{RowReplayed, RowsReplayed, Replayed};
 
 use matrix_check::Shape;
-
-// 1 where two numbers differ, else 0.
-fn differs(a: u16, b: u16) -> u16
-    ensures { result ≡ unequal a b }
-{
-    (a != b) as u16
-}
-
-// How many of the first `count` cursors are not where the next column starts.
-fn ends_wrong(count: usize, cursors: &[u16], index: &[u16]) -> u16
-    requires { (count ≤ 1023) × (count ≤ length cursors.now) × (count < length index.now) }
-    ensures { result ≡ wrong_ends cursors.now index.now count }
-{
-    let mut wrong: u16 = 0;
-    let mut j = 0;
-    while j < count {
-        wrong += differs(cursors[j], index[j + 1]);
-        j += 1;
-    }
-    wrong
-}
 
 // Whether number p of the index is there and is i.
 fn number_is(index: &[u16], p: usize, i: u16) -> bool
     ensures { result ≡ ltb p (length index.now) && eqb (at index.now p) i }
 {
-    if index.len() <= p {
-        return false;
-    }
-    index[p] == i
+    index.get(p).is_some_and(|x| *x == i)
 }
 
 // Whether row i of rho entries stands at all of its places. The cursors move on as if it were placed, up to where it does not stand.
@@ -59,16 +34,15 @@ fn row_stands(
     requires { Ordered (matrix shape.n shape.m rho shape.gamma list.now) × (i < shape.m) × (length index.now ≤ 33760) × Cursors (matrix shape.n shape.m rho shape.gamma list.now) (at index.now) i 0 cursors.old }
     ensures { RowReplayed (matrix shape.n shape.m rho shape.gamma list.now) i index.now cursors.old cursors.new result }
 {
-    let mut k = 0;
-    while k < rho {
-        let base = (shape.n as usize) + 1;
+    let base = (shape.n as usize) + 1;
+    // By index, laid out as `matrix_index::place_row` is.
+    for k in 0..rho {
         let j = list[i * rho + k] as usize;
         let c = cursors[j] as usize;
         if !number_is(index, base + c, i as u16) {
             return false;
         }
         cursors[j] = (c + 1) as u16;
-        k += 1;
     }
     true
 }
@@ -94,14 +68,12 @@ fn rows_stand(shape: Shape, list: &[u16], index: &[u16]) -> bool
     let m = shape.m as usize;
     let mut cursors = [0u16; 1023];
     matrix_index::copy_front(n, index, &mut cursors);
-    let mut i = 0;
-    while i < m {
+    for i in 0..m {
         if !row_laid_out(shape, list, i, &mut cursors, index) {
             return false;
         }
-        i += 1;
     }
-    ends_wrong(n, &cursors, index) == 0
+    cursors[..n] == index[1..n + 1]
 }
 
 // Whether a list has the starting places and the rows of an ordered matrix: of an accepted one, whether it is its index.

@@ -40,14 +40,12 @@ fn met_twice(shape: Shape, list: &[u16], i: usize, seen: &[u64]) -> bool
     let mut b = Met { once: 0, twice: 0 };
     let mut c = Met { once: 0, twice: 0 };
     let mut d = Met { once: 0, twice: 0 };
-    let mut k = 0;
-    while k < rho {
+    for k in 0..rho {
         let at = column(shape, list, i, k) * 4;
         a = meet(a, seen, at);
         b = meet(b, seen, at + 1);
         c = meet(c, seen, at + 2);
         d = meet(d, seen, at + 3);
-        k += 1;
     }
     (a.twice | b.twice | c.twice | d.twice) != 0
 }
@@ -70,10 +68,8 @@ fn note_row(shape: Shape, list: &[u16], part: usize, i: usize, seen: &mut [u64])
     if i / 256 != part {
         return;
     }
-    let mut k = 0;
-    while k < rho {
+    for k in 0..rho {
         note(seen, column(shape, list, i, k), i);
-        k += 1;
     }
 }
 
@@ -83,28 +79,34 @@ fn rows_twice(shape: Shape, list: &[u16], part: usize, seen: &mut [u64]) -> bool
     ensures { RowsSeen (matrix_of shape list.now) part seen.old seen.new result }
 {
     let m = shape.m as usize;
-    let mut i = part * 256;
-    while i < m {
+    for i in part * 256..m {
         if met_twice(shape, list, i, seen) {
             return true;
         }
         note_row(shape, list, part, i, seen);
-        i += 1;
     }
     false
 }
 
-// The same in memory of its own. Few columns get less of it, since clearing it takes longer than their search.
+// The same in memory of its own.
+fn part_twice_in<const SIZE: usize>(shape: Shape, list: &[u16], part: usize) -> bool
+    requires { Ordered (matrix_of shape list.now) × (part * 256 < shape.m) × (shape.n * 4 ≤ SIZE) × (SIZE ≤ 4096) }
+    ensures { result ≡ part_overlaps (matrix_of shape list.now) part }
+{
+    let mut seen = [0u64; SIZE];
+    rows_twice(shape, list, part, &mut seen)
+}
+
+// Few columns get less memory, since clearing it takes longer than their search.
 fn part_twice(shape: Shape, list: &[u16], part: usize) -> bool
     requires { Ordered (matrix_of shape list.now) × (part * 256 < shape.m) }
     ensures { result ≡ part_overlaps (matrix_of shape list.now) part }
 {
     if shape.n <= 256 {
-        let mut few = [0u64; 1024];
-        return rows_twice(shape, list, part, &mut few);
+        part_twice_in::<1024>(shape, list, part)
+    } else {
+        part_twice_in::<4096>(shape, list, part)
     }
-    let mut all = [0u64; 4096];
-    rows_twice(shape, list, part, &mut all)
 }
 
 // Whether a pair of columns is met twice, so whether two rows share two columns.
@@ -115,12 +117,10 @@ pub fn pair_twice(shape: Shape, list: &[u16]) -> bool
     ensures { result ≡ has_overlap (matrix_of shape list.now) }
 {
     let m = shape.m as usize;
-    let mut part = 0;
-    while part * 256 < m {
+    for part in 0..(m + 255) / 256 {
         if part_twice(shape, list, part) {
             return true;
         }
-        part += 1;
     }
     false
 }

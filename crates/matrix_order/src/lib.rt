@@ -18,10 +18,8 @@ fn descents(list: &[u16]) -> u16
     ensures { result ≡ sum_below (length list.now) (descent list.now) }
 {
     let mut count: u16 = 1;
-    let mut p = 1;
-    while p < list.len() {
+    for p in 1..list.len() {
         count += (list[p] <= list[p - 1]) as u16;
-        p += 1;
     }
     count
 }
@@ -32,10 +30,8 @@ fn row_descents(list: &[u16], m: usize, rho: usize) -> u16
     ensures { result ≡ sum_below m (row_descent list.now rho) }
 {
     let mut count: u16 = 1;
-    let mut i = 1;
-    while i < m {
+    for i in 1..m {
         count += (list[i * rho] <= list[i * rho - 1]) as u16;
-        i += 1;
     }
     count
 }
@@ -46,15 +42,13 @@ fn too_large(list: &[u16], n: u16) -> u16
     ensures { result ≡ sum_below (length list.now) (not_below list.now n) }
 {
     let mut count: u16 = 0;
-    let mut p = 0;
-    while p < list.len() {
-        count += (n <= list[p]) as u16;
-        p += 1;
+    for column in list {
+        count += (n <= *column) as u16;
     }
     count
 }
 
-// Whether no entry is bad. Only this repository's crates call it, after asking refusals 1 and 2.
+// Whether no entry is bad. It says no place: only a refused matrix pays for the search. Only this repository's crates call it, after asking refusals 1 and 2.
 pub fn in_order(shape: Shape, list: &[u16]) -> bool
     requires { Sized (matrix_of shape list.now) }
     ensures { result ≡ not (any_below (bad_entry (matrix_of shape list.now)) (length list.now)) }

@@ -2,7 +2,7 @@
 // Rests on `matrix`. Document 01: "Refused for the input" 5.
 #![tactic(auto)]
 
-ghost use Rattle.std.specs.Prelude.{◌≡◌, ◌<◌};
+ghost use Rattle.std.specs.Prelude.{◌≡◌, ◌<◌, MatchOption};
 ghost use Rattle.counting.specs.Paper.Search.{first};
 ghost use Rattle.matrix.specs.Paper.Code.{entry, common};
 ghost use Rattle.matrix.specs.Paper.Check.{overlapping};
@@ -19,11 +19,9 @@ fn marks_of(shape: Shape, list: &[u16], i: usize) -> [u16; 1023]
 {
     let rho = shape.rho as usize;
     let mut marks = [0u16; 1023];
-    let mut k = 0;
-    while k < rho {
+    for k in 0..rho {
         let c = column(shape, list, i, k);
         marks[c] += 1;
-        k += 1;
     }
     marks
 }
@@ -35,11 +33,9 @@ fn common_with(shape: Shape, list: &[u16], i: usize, later: usize, marks: &[u16;
 {
     let rho = shape.rho as usize;
     let mut shared: usize = 0;
-    let mut k = 0;
-    while k < rho {
+    for k in 0..rho {
         let c = column(shape, list, later, k);
         shared += marks[c] as usize;
-        k += 1;
     }
     shared
 }
@@ -51,29 +47,26 @@ fn row_overlaps(shape: Shape, list: &[u16], i: usize) -> bool
 {
     let m = shape.m as usize;
     let marks = marks_of(shape, list, i);
-    let mut later = i + 1;
-    while later < m {
+    for later in i + 1..m {
         if common_with(shape, list, i, later, &marks) >= 2 {
             return true;
         }
-        later += 1;
     }
     false
 }
 
 // The first row that shares two columns or more with a later row: all pairs of rows are compared. Only a matrix that has
 // such rows is searched. Only this repository's crates call it, after asking refusals 1 to 3.
-pub fn exact_overlap(shape: Shape, list: &[u16]) -> usize
+#[tactic(auto, using(counting::proofs::Loops::first_passed))]
+pub fn exact_overlap(shape: Shape, list: &[u16]) -> Option<usize>
     requires { Ordered (matrix_of shape list.now) × (first (overlapping (matrix_of shape list.now)) shape.m < shape.m) }
-    ensures { result ≡ first (overlapping (matrix_of shape list.now)) shape.m }
+    ensures { MatchOption result (first (overlapping (matrix_of shape list.now)) shape.m ≡ shape.m) (λ i. (i ≡ first (overlapping (matrix_of shape list.now)) shape.m) × (i < shape.m)) }
 {
     let m = shape.m as usize;
-    let mut first = 0;
-    while first < m {
-        if row_overlaps(shape, list, first) {
-            return first;
+    for i in 0..m {
+        if row_overlaps(shape, list, i) {
+            return Some(i);
         }
-        first += 1;
     }
-    first
+    None
 }

@@ -1,7 +1,7 @@
 -- Laws of cells that are filled: rows added to cleared cells make them the rows' sets.
---   blank-is     == a cleared cell as the code writes it
 --   room-is      == room for the rows, as the code counts it
---   cleared-is   == the cells cleared, as the code counts them
+--   cleared-is   == the cells cleared, as the code clears them
+--   row-entry    == the row's numbers, as the code takes them from the list
 --   entry-put    == a store adds an entry
 --   put-none     == no entry is added yet
 --   put_next     == one entry more
@@ -14,40 +14,52 @@
 --   rows-done    == all rows added to cleared cells are the sets, and the cells past them are as they were
 -- Assumes nothing.
 use mathlib.Core.Path.{◌≡◌, refl, sym, ap, ap₂, ◌∙◌}
-use mathlib.Core.List.{List}
+use mathlib.Core.List.{List, ◌++◌}
 use mathlib.Core.Logic.{inl, inr}
-use Prim.Native.Nat.{ℕ, zero, suc, ◌+◌, ◌*◌, ◌^◌, ◌<◌, ◌≤◌}
+use Prim.Native.Nat.{ℕ, zero, suc, ◌+◌, ◌-◌, ◌*◌, ◌^◌, ◌<◌, ◌≤◌}
 use native.Mathlib.Nat.{zero-mul, one-mul}
 use native.Mathlib.Numerals.{add-one}
 use native.Mathlib.Decide.{dec_lt}
 use native.Mathlib.Omega.{arith}
-use lib.ListN.{length, set, length-set}
+use lib.ListN.{length, set, length-set, replicate, take, drop}
+use Rattle.std.proofs.lemmas.List.{length-replicate, get_or-replicate, length-take, length-take-le, get_or-take, get_or-drop}
 use lib.Seq.{ext_get_or}
 use Rattle.counting.specs.Paper.Sum.{sum_below, same}
 use Rattle.counting.specs.Paper.Lists.{listed, over}
 use Rattle.counting.specs.Places.{at}
 use Rattle.counting.proofs.Sums.{same_refl, same-ne}
-use Rattle.counting.proofs.Writes.{stored, over-long, over-at, over-rest}
+use Rattle.counting.proofs.Writes.{length-listed, get_or-listed, stored, over-long, over-at, over-rest}
 use Rattle.matrix.specs.Paper.Code.{Matrix, entry}
 use Rattle.matrix.specs.Paper.PlainCheck.{Accepted}
 use Rattle.matrix_rows.specs.Rows.{word_of, place_of, row_cell, rows_size, rows_of}
 use Rattle.matrix_rows.specs.Filling.{blank, entry_put, row_put, rows_put, entry_share, row_share, rows_share, RowFits}
 use Rattle.matrix_rows.proofs.Shares.{word_low, row-grows, row-part, entry-bit, cell-all, past_all, rows_fit}
 
--- a cleared cell as the code writes it
-pub blank-is : (t : ℕ) → 0 ≡ blank t
-unfolding blank
-blank-is t = refl
-
 -- room for the rows, as the code counts it
 pub room-is : (H : Matrix) {k : ℕ} → rows_size H ≤ k → 16 * H.m ≤ k
 unfolding rows_size
 room-is H h = h
 
--- the cells cleared, as the code counts them
-pub cleared-is : (H : Matrix) (old x : List ℕ) → x ≡ over (listed (16 * H.m) blank) old → x ≡ over (listed (rows_size H) blank) old
-unfolding rows_size
-cleared-is H old x e = e
+-- the cells cleared, as the code clears them
+pub cleared-is : (H : Matrix) (old x : List ℕ) → 16 * H.m ≤ length old → x ≡ replicate (length (take (16 * H.m) old)) 0
+    → x ++ drop (16 * H.m) old ≡ over (listed (rows_size H) blank) old
+unfolding over rows_size blank
+cleared-is H old x room e =
+    let k : ℕ = 16 * H.m in
+    let long : length (listed {A = ℕ} k (λ t. 0)) ≡ k = length-listed {A = ℕ} k (λ t. 0) in
+    let same : replicate k 0 ≡ listed k (λ t. 0) = ext_get_or 0 (replicate k 0) (listed k (λ t. 0)) (length-replicate {A = ℕ} k 0 ∙ sym long)
+    (λ (t : ℕ) (h : t < length (replicate {A = ℕ} k 0)). let l : t < k = omega (arith, h, length-replicate {A = ℕ} k 0) in
+    get_or-replicate k t 0 0 l ∙ sym (get_or-listed k (λ t. 0) t 0 l)) in
+    rw (e, length-take-le k old room, same, long) refl
+
+-- the row's numbers, as the code takes them from the list
+pub row-entry : (H : Matrix) (i k : ℕ) → k < length (take (i * H.rho + H.rho - i * H.rho) (drop (i * H.rho) H.list))
+    → (k < H.rho) × (at (take (i * H.rho + H.rho - i * H.rho) (drop (i * H.rho) H.list)) k ≡ entry H i k)
+unfolding entry
+row-entry H i k h =
+    let n : ℕ = i * H.rho + H.rho - i * H.rho in
+    let l : k < n = omega (arith, length-take n (drop (i * H.rho) H.list)) in
+    (omega arith, get_or-take n (drop (i * H.rho) H.list) k 0 l ∙ get_or-drop (i * H.rho) H.list k 0)
 
 -- ---- one entry
 

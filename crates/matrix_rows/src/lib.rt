@@ -1,29 +1,17 @@
 // The rows of a matrix as sets of columns, sixteen words a row.
 // Rests on `matrix_check`. Document 01: "Iterative voting", step 4.
+// `matrix_columns` walks the entries in the same way: a trait over both would need a size, a step and four laws for two loops of three lines.
 #![tactic(auto)]
 
 ghost use Rattle.std.specs.Prelude.{◌≡◌, ◌+◌, ◌*◌, ◌^◌, ◌≤◌, ◌<◌, length};
-ghost use Rattle.counting.specs.Paper.Lists.{listed, over};
+ghost use Rattle.counting.specs.Paper.Lists.{over};
 ghost use Rattle.counting.specs.Places.{at};
 ghost use Rattle.matrix.specs.Paper.PlainCheck.{Accepted};
 ghost use Rattle.matrix.specs.Paper.Shapes.{matrix_of};
 ghost use Rattle.matrix_rows.specs.Rows.{word_of, place_of, rows_size, rows_of};
-ghost use Rattle.matrix_rows.specs.Filling.{blank, entry_put, row_put, RowFits};
+ghost use Rattle.matrix_rows.specs.Filling.{entry_put, row_put, RowFits};
 
-use matrix::column;
 use matrix_check::Shape;
-
-// Clears the first cells; those past them stay.
-fn clear(size: usize, rows: &mut [u64])
-    requires { (size ≤ 16368) × (size ≤ length rows.old) }
-    ensures { rows.new ≡ over (listed size blank) rows.old }
-{
-    let mut t = 0;
-    while t < size {
-        rows[t] = 0;
-        t += 1;
-    }
-}
 
 // Adds column j to the set of row i.
 fn place_entry(i: usize, j: usize, rows: &mut [u64])
@@ -41,10 +29,8 @@ fn place_row(shape: Shape, list: &[u16], i: usize, rows: &mut [u64])
     ensures { rows.new ≡ row_put (matrix_of shape list.now) i shape.rho rows.old }
 {
     let rho = shape.rho as usize;
-    let mut k = 0;
-    while k < rho {
-        place_entry(i, column(shape, list, i, k), rows);
-        k += 1;
+    for j in &list[i * rho..i * rho + rho] {
+        place_entry(i, *j as usize, rows);
     }
 }
 
@@ -55,10 +41,8 @@ pub fn build(shape: Shape, list: &[u16], rows: &mut [u64])
     ensures { rows.new ≡ over (rows_of (matrix_of shape list.now)) rows.old }
 {
     let m = shape.m as usize;
-    clear(16 * m, rows);
-    let mut i = 0;
-    while i < m {
+    rows[..16 * m].fill(0);
+    for i in 0..m {
         place_row(shape, list, i, rows);
-        i += 1;
     }
 }

@@ -6,6 +6,7 @@
 --   tally-room     == a count of so few entries fits a cell with room for one more
 --   bad-in-row     == an entry of the row that begins at p is bad in the row exactly where it is in the list
 --   row_inside     == that row ends within the list
+--   row_begins, row_ends   == row i begins at i * rho, and ends within the list
 --   clear-before   == no entry before the row's first bad one is bad, where none before the row is
 --   row_first      == and that one is the first of the list
 --   tally-weight   == the tally of the whole list has the weights
@@ -30,6 +31,7 @@ use native.Mathlib.Numerals.{add-one}
 use native.Mathlib.Decide.{dec_lt}
 use native.Mathlib.Omega.{arith}
 use borrow.Author.Tests.{ltb-false, leb-false, not-true, not-false, lt-ltb, le-ltb, le-leb, lt-leb}
+use lib.Arith.{digits_mod}
 use lib.Dec.{ltb, leb, eqb}
 use lib.ListN.{length, get_or, set}
 use Rattle.counting.specs.Paper.Sum.{sum_below, flag, same}
@@ -40,7 +42,8 @@ use Rattle.counting.proofs.Decisions.{missed, test-fails}
 use Rattle.matrix.specs.Paper.Code.{Matrix, weight}
 use Rattle.matrix.specs.Paper.Check.{within, bad_entry, bad_weight, no_least}
 use Rattle.matrix.proofs.Rows.{weight-flat}
-use Rattle.matrix.specs.Ordered.{WeightsFit}
+use Rattle.matrix.specs.Ordered.{Sized, WeightsFit}
+use Rattle.matrix.proofs.Ordered.{in_list}
 use Rattle.matrix.proofs.PlainCheck.{weights, none-clear, none-fails}
 use Rattle.matrix.specs.Tallies.{Tally, Weighed}
 use Rattle.matrix.proofs.Tallies.{tally-more, tally-le}
@@ -170,6 +173,15 @@ module _ (H : Matrix) where
       row_first l inside =
           let bad = first_holds (bad_in_row H.n H.list p) H.rho (omega (arith, found)) in
           sym (first-at (bad_entry H) (length H.list) (p + k) (omega arith) clear-before (bad-in-row k l ∙ ap (bad_in_row H.n H.list p) found ∙ bad))
+
+  -- row i begins at i * rho, and ends within the list
+  pub row_begins : Sized H → (i : ℕ) → i * H.rho % H.rho ≡ 0
+  row_begins z i =
+      ap (λ (x : ℕ). x % H.rho) (sym (add-zero (i * H.rho))) ∙ digits_mod i (omega (arith, z.sizes.rho_least))
+
+  pub row_ends : Sized H → (i : ℕ) → i < H.m → i * H.rho + H.rho ≤ length H.list
+  row_ends z i l =
+      row_inside (i * H.rho) (row_begins z i) z.whole (omega (arith, z.sizes.rho_least)) (omega (arith, in_list z i 0 l (omega (arith, z.sizes.rho_least))))
 
   -- the tally of the whole list has the weights
   pub tally-weight : (v : List ℕ) → length H.list ≡ H.m * H.rho → Tally (list_at H) (length H.list) v → (j : ℕ) → j < 1023 → get_or v j 0 ≡ weight H j

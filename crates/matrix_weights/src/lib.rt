@@ -2,7 +2,7 @@
 // Rests on `matrix`. Document 01: "Refused for the input" 3 and 4. Document 02: card 2.
 #![tactic(auto)]
 
-ghost use Rattle.std.specs.Prelude.{not, ◌||◌, ◌≡◌, ◌+◌, ◌<◌, ◌≤◌, leb, get_or, set};
+ghost use Rattle.std.specs.Prelude.{MatchOption, not, ◌||◌, ◌≡◌, ◌+◌, ◌<◌, ◌≤◌, leb, length, get_or, set};
 ghost use Rattle.counting.specs.Paper.Search.{any_below, first};
 ghost use Rattle.matrix.specs.Paper.Check.{within};
 ghost use Rattle.matrix.specs.Ordered.{Sized};
@@ -12,7 +12,7 @@ ghost use Rattle.matrix_weights.specs.Weights.{list_at, Walked, RowAhead, RowWal
 
 use matrix::Shape;
 
-// Whether an entry that does not begin its row is not below n or not above the one before it.
+// Whether an entry that does not begin its row is not below n or not above the one before it. One branch for both tests.
 fn bad_after(n: u16, before: u16, c: u16) -> bool
     ensures { result ≡ (leb n c || leb c before) }
 {
@@ -27,85 +27,85 @@ fn count(tally: &mut [u16; 1023], c: usize)
     tally[c] += 1;
 }
 
-// The place in its row of the first bad entry of the row that begins at `start`, else rho. Counts the columns of the entries before it.
-fn walk_row(n: u16, list: &[u16], start: usize, rho: usize, weights: &mut [u16; 1023]) -> usize
+// The place in its row of the first bad entry of the row that begins at `start`. Counts the columns of the entries before it.
+fn walk_row(
+    n: u16,
+    list: &[u16],
+    start: usize,
+    rho: usize,
+    weights: &mut [u16; 1023],
+) -> Option<usize>
     requires { RowAhead n list.now start rho weights.old }
-    ensures { RowWalked n list.now start rho weights.new result }
+    ensures { MatchOption result (RowWalked n list.now start rho weights.new rho) (λ k. RowWalked n list.now start rho weights.new k × (k < rho)) }
 {
     let first = list[start];
     if n <= first {
-        return 0;
+        return Some(0);
     }
     count(weights, first as usize);
     let mut before = first;
-    let mut k = 1;
-    while k < rho {
+    for k in 1..rho {
         let c = list[start + k];
         if bad_after(n, before, c) {
-            return k;
+            return Some(k);
         }
         count(weights, c as usize);
         before = c;
-        k += 1;
     }
-    k
+    None
 }
 
-// The first bad entry, else the list's length. The same pass, row by row, counts the columns of the entries before it: the weights, where none is bad.
+// The first bad entry. The same pass, row by row, counts the columns of the entries before it: the weights, where none is bad.
 // Only this repository's crates call it, after asking refusals 1 and 2.
-pub fn walk(shape: Shape, list: &[u16], weights: &mut [u16; 1023]) -> usize
+pub fn walk(shape: Shape, list: &[u16], weights: &mut [u16; 1023]) -> Option<usize>
     requires { Sized (matrix_of shape list.now) × Tally (list_at (matrix_of shape list.now)) 0 weights.old }
-    ensures { Walked (matrix_of shape list.now) weights.new result }
+    ensures { MatchOption result (Walked (matrix_of shape list.now) weights.new (length list.now)) (λ p. Walked (matrix_of shape list.now) weights.new p × (p < length list.now)) }
 {
+    let m = shape.m as usize;
     let rho = shape.rho as usize;
-    let mut p = 0;
-    while p < list.len() {
-        let k = walk_row(shape.n, list, p, rho, weights);
-        p += k;
-        if k < rho {
-            return p;
+    for i in 0..m {
+        if let Some(k) = walk_row(shape.n, list, i * rho, rho, weights) {
+            return Some(i * rho + k);
         }
     }
-    p
+    None
 }
 
-// Whether a weight lies outside gamma to 32.
+// Whether a weight lies outside gamma to 32. Both ends are asked at every column: a range's `contains` would leave off after the first.
 fn outside(gamma: u16, w: u16) -> bool
     ensures { result ≡ not (within gamma w 32) }
 {
     (w < gamma) | (32 < w)
 }
 
-// The first column whose weight lies outside gamma to 32, else n. Only this repository's crates call it, after asking refusal 1.
-pub fn first_off_weight(shape: Shape, weights: &[u16; 1023]) -> usize
+// The first column whose weight lies outside gamma to 32. Only this repository's crates call it, after asking refusal 1.
+#[tactic(auto, using(counting::proofs::Loops::first_passed), unfolding(crate::specs::Weights::out_weight))]
+pub fn first_off_weight(shape: Shape, weights: &[u16; 1023]) -> Option<usize>
     requires { shape.n ≤ 1023 }
-    ensures { result ≡ first (out_weight shape.gamma weights.now) shape.n }
+    ensures { MatchOption result (first (out_weight shape.gamma weights.now) shape.n ≡ shape.n) (λ j. (j ≡ first (out_weight shape.gamma weights.now) shape.n) × (j < shape.n)) }
 {
     let n = shape.n as usize;
     let gamma = shape.gamma;
-    let mut j = 0;
-    while j < n {
+    for j in 0..n {
         if outside(gamma, weights[j]) {
-            return j;
+            return Some(j);
         }
-        j += 1;
     }
-    j
+    None
 }
 
 // Whether some column weighs gamma.
+#[tactic(auto, using(counting::proofs::Loops::any_passed), unfolding(crate::specs::Weights::least_weight))]
 fn has_least(shape: Shape, weights: &[u16; 1023]) -> bool
     requires { shape.n ≤ 1023 }
     ensures { result ≡ any_below (least_weight shape.gamma weights.now) shape.n }
 {
     let n = shape.n as usize;
     let least = shape.gamma;
-    let mut c = 0;
-    while c < n {
+    for c in 0..n {
         if weights[c] == least {
             return true;
         }
-        c += 1;
     }
     false
 }
@@ -118,15 +118,13 @@ fn off_weights(shape: Shape, weights: &[u16; 1023]) -> u16
     let n = shape.n as usize;
     let low = shape.gamma;
     let mut off: u16 = 0;
-    let mut q = 0;
-    while q < n {
+    for q in 0..n {
         off += outside(low, weights[q]) as u16;
-        q += 1;
     }
     off
 }
 
-// Whether refusal 4 passes these weights. Only this repository's crates call it, after asking refusal 1.
+// Whether refusal 4 passes these weights. It says no place: only a refused matrix pays for the search. Only this repository's crates call it, after asking refusal 1.
 pub fn weights_fit(shape: Shape, weights: &[u16; 1023]) -> bool
     requires { shape.n ≤ 1023 }
     ensures { result ≡ weights_fit shape.gamma weights.now shape.n }

@@ -5,9 +5,11 @@
 
 ghost use Rattle.answers.specs.Paper.Enums.{report_of};
 ghost use Rattle.counting.specs.Places.{at};
-ghost use Rattle.matrix.specs.Paper.Code.{Word, weight};
+ghost use Rattle.std.specs.Prelude.{⊤};
+ghost use Rattle.matrix.specs.Paper.Code.{Matrix, Word, weight};
 ghost use Rattle.matrix.specs.Paper.PlainCheck.{Accepted};
 ghost use Rattle.matrix.specs.Paper.Shapes.{matrix_of};
+ghost use Rattle.matrix.specs.Tallies.{Weighed};
 ghost use Rattle.majority_flips.specs.Flips.{VotedBits};
 ghost use Rattle.one_step_core.specs.Stepped.{Stepped, VoteLent, HandBackLent, HandedBack, Voted};
 
@@ -15,10 +17,33 @@ use answers::Report;
 use majority_votes::Stop;
 use matrix_check::Shape;
 
+// Where the weights of an accepted matrix's columns are found.
+pub trait Weigh {
+    // what is looked at for them belongs to the matrix
+    ghost belongs: { Self → Matrix → Type 0 };
+
+    fn weigh(&self, shape: Shape, list: &[u16], weights: &mut [u16; 1023])
+        requires { Accepted (matrix_of shape list.now) × belongs self.now (matrix_of shape list.now) }
+        ensures { Weighed (matrix_of shape list.now) weights.new };
+}
+
+// How a word is voted on: by the rows of the matrix alone, or by an index too.
+pub trait Vote: Weigh {
+    fn vote(&self, shape: Shape, list: &[u16], bits: &mut [u8; 1023]) -> Stop
+        requires { Accepted (matrix_of shape list.now) × Self.belongs self.now (matrix_of shape list.now) × Word (matrix_of shape list.now) (at bits.old) }
+        ensures { Stepped (matrix_of shape list.now) bits.old bits.new result.rounds result.failing };
+}
+
 // Every bit after the vote, each held against its own column's weight. Where the sizes leave no room for unlike columns all weigh gamma,
 // and no array of weights is cleared and filled: at the smallest codes that alone would be felt.
-fn flip_own(shape: Shape, list: &[u16], votes: &[u8; 1023], bits: &mut [u8; 1023])
-    requires { Accepted (matrix_of shape list.now) × Word (matrix_of shape list.now) (at bits.old) }
+pub fn flip_own<W: Weigh>(
+    way: &W,
+    shape: Shape,
+    list: &[u16],
+    votes: &[u8; 1023],
+    bits: &mut [u8; 1023],
+)
+    requires { Accepted (matrix_of shape list.now) × W.belongs way.now (matrix_of shape list.now) × Word (matrix_of shape list.now) (at bits.old) }
     ensures { VotedBits shape.n (weight (matrix_of shape list.now)) votes.now bits.old bits.new }
 {
     let n = shape.n as usize;
@@ -28,28 +53,40 @@ fn flip_own(shape: Shape, list: &[u16], votes: &[u8; 1023], bits: &mut [u8; 1023
         return;
     }
     let mut weights = [0u16; 1023];
-    matrix_degrees::weigh(shape, list, &mut weights);
+    way.weigh(shape, list, &mut weights);
     majority_flips::flip_all(shape, votes, &weights, bits);
 }
 
-// One vote on an unpacked word: nothing moves, and no column is weighed, where no check fails.
-fn vote(shape: Shape, list: &[u16], bits: &mut [u8; 1023]) -> Stop
-    requires { Accepted (matrix_of shape list.now) × Word (matrix_of shape list.now) (at bits.old) }
-    ensures { Stepped (matrix_of shape list.now) bits.old bits.new result.rounds result.failing }
-{
-    let mut votes = [0u8; 1023];
-    let before = majority_votes::tally(shape, list, bits, &mut votes);
-    if before == 0 {
-        return Stop {
-            rounds: 0,
-            failing: 0,
-        };
+// By the rows alone.
+#[derive(Clone, Copy, Debug, PartialEq, Eq)]
+pub struct ByRows;
+
+impl Weigh for ByRows {
+    ghost belongs = { λ w H. ⊤ };
+
+    #[tactic(auto, using(matrix_degrees::proofs::Degrees::weighed))]
+    fn weigh(&self, shape: Shape, list: &[u16], weights: &mut [u16; 1023]) {
+        matrix_degrees::weigh(shape, list, weights);
     }
-    flip_own(shape, list, &votes, bits);
-    let after = syndrome::failing_count(shape, list, bits);
-    Stop {
-        rounds: 1,
-        failing: after,
+}
+
+impl Vote for ByRows {
+    // Nothing moves, and no column is weighed, where no check fails.
+    fn vote(&self, shape: Shape, list: &[u16], bits: &mut [u8; 1023]) -> Stop {
+        let mut votes = [0u8; 1023];
+        let before = majority_votes::tally(shape, list, bits, &mut votes);
+        if before == 0 {
+            return Stop {
+                rounds: 0,
+                failing: 0,
+            };
+        }
+        flip_own(self, shape, list, &votes, bits);
+        let after = syndrome::failing_count(shape, list, bits);
+        Stop {
+            rounds: 1,
+            failing: after,
+        }
     }
 }
 
@@ -71,14 +108,28 @@ pub fn hand_back(
     answers::ended(stop.rounds, stop.failing, changed)
 }
 
-// The core, for a matrix that the check has accepted. Only this repository's crates call it, after asking the refusals.
-pub fn one_step_accepted(shape: Shape, list: &[u16], received: &[u8], word: &mut [u8]) -> Report
-    requires { VoteLent (matrix_of shape list.now) received.now word.old }
+// The core, for a matrix that the check has accepted, by either way. Only this repository's crates call it, after asking the refusals.
+pub fn one_step_by<V: Vote>(
+    way: &V,
+    shape: Shape,
+    list: &[u16],
+    received: &[u8],
+    word: &mut [u8],
+) -> Report
+    requires { VoteLent (matrix_of shape list.now) received.now word.old × V.belongs way.now (matrix_of shape list.now) }
     ensures { Voted (matrix_of shape list.now) received.now word.old word.new (report_of result) }
 {
     let n = shape.n as usize;
     let mut bits = [0u8; 1023];
     packed_word::unpack(received, n, &mut bits);
-    let stop = vote(shape, list, &mut bits);
+    let stop = way.vote(shape, list, &mut bits);
     hand_back(n, received, stop, &bits, word)
+}
+
+// The same by the rows alone. Only this repository's crates call it, after asking the refusals.
+pub fn one_step_accepted(shape: Shape, list: &[u16], received: &[u8], word: &mut [u8]) -> Report
+    requires { VoteLent (matrix_of shape list.now) received.now word.old }
+    ensures { Voted (matrix_of shape list.now) received.now word.old word.new (report_of result) }
+{
+    one_step_by(&ByRows, shape, list, received, word)
 }

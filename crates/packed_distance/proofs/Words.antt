@@ -1,7 +1,6 @@
 -- Words of several bytes: the ones of their difference are the places at which their bytes differ.
 --   read_none       == of no bytes the number is 0
 --   read_more       == one byte more at the low end
---   read-room       == fewer than eight bytes leave room for one more in 64 bits
 --   word-apart      == the ones of the difference of words of k bytes
 --   counts-places   == document 02, card 4: counted by words, and the last bytes singly, it is the number of places at which two runs differ
 -- Assumes nothing.
@@ -10,7 +9,6 @@ use mathlib.Core.List.{List}
 use Prim.Native.Nat.{ℕ, zero, suc, ◌+◌, ◌*◌, ◌-◌, ◌/◌, ◌%◌, ◌^◌, ◌<◌, ◌≤◌}
 use native.Mathlib.Omega.{arith}
 use native.Mathlib.Decide.{ℕ_discrete}
-use lib.Pow.{pow-add, pow_mono}
 use lib.Bits.{bit_xor, xor_block, xor_lt}
 use lib.Count.{ones, ones_cat}
 use lib.ListN.{length, get_or}
@@ -39,17 +37,6 @@ module _ (w : List ℕ) where
         bytes = λ i g l.
             elim (ℕ_discrete i q) [ yes f ↦ omega (arith, ap (λ (j : ℕ). get_or w j 0) f) | no f ↦ p.bytes i (omega arith) (omega arith) ];
       }
-
-  word_small : (q k : ℕ) → ((i : ℕ) → q ≤ i → i < q + k → get_or w i 0 < 256) → word_at w q k < 2 ^ (8 * k)
-  unfolding word_at
-  word_small q zero h = omega arith
-  word_small q (suc k) h =
-      let e : 8 * suc k ≡ 8 * k + 8 = omega arith in
-      rw (e, pow-add 2 (8 * k) 8) (omega (arith, word_small (q + 1) k (λ i g l. h i (omega arith) (omega arith)), h q (omega arith) (omega arith)))
-
-  -- fewer than eight bytes leave room for one more
-  pub read-room : (q k x : ℕ) → WordRead w q k x → k < 8 → x < 2 ^ 56
-  read-room q k x p h = omega (arith, p.value, word_small q k p.bytes, pow_mono {i = 8 * k} {j = 56} (omega arith))
 
 -- ---- the ones of their difference
 

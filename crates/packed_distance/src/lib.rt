@@ -9,32 +9,12 @@ ghost use Rattle.std.specs.Int.Count.{ones};
 ghost use Rattle.packed_word.specs.Paper.Packed.{bit_at, distance};
 ghost use Rattle.packed_distance.specs.Parts.{WordRead, apart, apart_in};
 
-// A byte as a number of 64 bits.
-fn wide(x: u8) -> u64
-    ensures { (result ≡ x) × (result < 256) }
-{
-    x as u64
-}
-
 // The number that the first eight bytes make, the first the lowest: compiled, that is one load of 64 bits.
 fn eight(w: &[u8]) -> u64
     requires { 8 ≤ length w.now }
     ensures { WordRead w.now 0 8 result }
 {
-    let mut x: u64 = 0;
-    let mut k = 8;
-    while k > 0 {
-        k -= 1;
-        x = x * 256 + wide(w[k]);
-    }
-    x
-}
-
-// The ones of the difference of two words.
-fn ones_apart(x: u64, y: u64) -> u32
-    ensures { result ≡ ones (bit_xor x y) }
-{
-    u64::count_ones(x ^ y)
+    u64::from_le_bytes([w[0], w[1], w[2], w[3], w[4], w[5], w[6], w[7]])
 }
 
 // At how many of their sixty-four places the eight bytes from byte q on differ.
@@ -42,7 +22,7 @@ fn word_apart(a: &[u8], b: &[u8], q: usize) -> u64
     requires { (q + 8 ≤ length a.now) × (q + 8 ≤ length b.now) }
     ensures { result ≡ apart_in a.now b.now q 8 }
 {
-    ones_apart(eight(&a[q..]), eight(&b[q..])) as u64
+    u64::from((eight(&a[q..]) ^ eight(&b[q..])).count_ones())
 }
 
 // At how many places the first words, of eight bytes each, differ. There are few enough that 64 bits can count their places.
@@ -51,19 +31,10 @@ fn words_apart(a: &[u8], b: &[u8], words: usize) -> u64
     ensures { result ≡ apart_in a.now b.now 0 (8 * words) }
 {
     let mut found: u64 = 0;
-    let mut i = 0;
-    while i < words {
+    for i in 0..words {
         found += word_apart(a, b, 8 * i);
-        i += 1;
     }
     found
-}
-
-// At how many of its eight places one byte differs from another.
-fn byte_apart(x: u8, y: u8) -> u32
-    ensures { result ≡ apart x y }
-{
-    u8::count_ones(x ^ y)
 }
 
 // At how many places the bytes from byte `from` on differ, byte by byte: the last ones, fewer than eight.
@@ -72,10 +43,8 @@ fn last_apart(a: &[u8], b: &[u8], from: usize) -> u16
     ensures { result ≡ apart_in a.now b.now from (length a.now - from) }
 {
     let mut found: u16 = 0;
-    let mut q = from;
-    while q < a.len() {
-        found += byte_apart(a[q], b[q]) as u16;
-        q += 1;
+    for q in from..a.len() {
+        found += (a[q] ^ b[q]).count_ones() as u16;
     }
     found
 }

@@ -16,26 +16,24 @@
 --   spare_one                  == whether the spare place n + i is set
 --   spare-clear, clear-spare   == no spare place is set exactly where all of them are 0
 --   pack-bit_at                == a word with clear spare places is the packing of its bits
---   spare-start                == the search of the spare places starts with none found
---   spare-found                == a spare place that is 1 is found
---   spare_more                 == past one that is not the search goes on
---   spare-end                  == at the end of the last byte no spare place is set
+--   spare-asked                == the places asked from n on are the spare places
 -- Assumes nothing.
-use mathlib.Core.Path.{◌≡◌, sym, ap, ◌∙◌}
-use mathlib.Core.Bool.{Bool, true, false}
+use mathlib.Core.Path.{◌≡◌, refl, sym, ap, ◌∙◌}
+use mathlib.Core.Bool.{Bool, false, ◌||◌, or-false, or_assoc}
 use mathlib.Core.List.{List}
-use Prim.Native.Nat.{ℕ, ◌+◌, ◌*◌, ◌-◌, ◌/◌, ◌%◌, ◌^◌, ◌≤◌, ◌<◌}
+use Prim.Native.Nat.{ℕ, zero, suc, ◌+◌, ◌*◌, ◌-◌, ◌/◌, ◌%◌, ◌^◌, ◌≤◌, ◌<◌}
 use native.Mathlib.Nat.{zero-div, zero-mul, one-mul}
 use native.Mathlib.Decide.{dec_lt}
 use native.Mathlib.Omega.{arith}
 use lib.Dec.{eqb, ltb}
-use borrow.Author.Tests.{lt-ltb, le-ltb, eqb-false, eq-eqb, ne_eqb}
+use borrow.Author.Tests.{lt-ltb, le-ltb, eqb-false, ne_eqb}
 use lib.ListN.{length, get_or, get_or-eq_default}
 use lib.Seq.{ext_get_or}
+use Rattle.std.specs.List.{list_any, range_with_len}
 use Rattle.counting.specs.Paper.Sum.{flag}
 use Rattle.counting.specs.Paper.Search.{any_below}
 use Rattle.counting.proofs.Sums.{sum-cong}
-use Rattle.counting.proofs.Searches.{any_step, any_none, any_at, any-clear}
+use Rattle.counting.proofs.Searches.{any_none, any-clear, any-cong}
 use Rattle.counting.proofs.Writes.{length-listed, get_or-listed, listed-cong}
 use Rattle.packed_word.specs.Paper.Packed.{bit_at, bytes_for, packed_byte, pack, spare_set, Bytes}
 use Rattle.counting.specs.Digits.{binary_digit}
@@ -183,31 +181,23 @@ pack-bit_at n w small long clear =
         let h : q < bytes_for n = omega (arith, length-pack n (bit_at w)) in
         byte-pack n (bit_at w) q h ∙ sum-cong 8 (λ i m. ap (λ (x : ℕ). x * 2 ^ (7 - i)) (bit q i h m)) ∙ byte-digit (get_or w q 0) (small q)
 
--- a search over the spare places: it starts, it finds one that is set, it goes on, it comes to the end
-module _ (n : ℕ) (w : List ℕ) where
-  -- the search of the spare places starts with none found
-  pub spare-start : (j : ℕ) → j ≡ n → any_below (spare_one n w) (j - n) ≡ false
-  unfolding any_below
-  spare-start j e =
-      let z : j - n ≡ 0 = omega arith in
-      ap (any_below (spare_one n w)) z
+-- a search from the front: the first place, or one after it
+any-front : (t : ℕ → Bool) (k : ℕ) → any_below t (suc k) ≡ (t 0 || any_below (λ i. t (suc i)) k)
+unfolding any_below
+any-front t zero = sym (or-false (t 0))
+any-front t (suc k) = ap (λ (b : Bool). b || t (suc k)) (any-front t k) ∙ or_assoc (t 0) (any_below (λ i. t (suc i)) k) (t (suc k))
 
-  -- a spare place that is 1 is found
-  pub spare-found : (j : ℕ) → n ≤ j → j < 8 * bytes_for n → bit_at w j ≡ 1 → true ≡ spare_set n w
-  unfolding spare_set
-  spare-found j l m e =
-      let q : n + (j - n) ≡ j = omega arith in
-      sym (any_at (spare_one n w) (8 * bytes_for n - n) (j - n) (omega arith) (eq-eqb (bit_at w (n + (j - n))) 1 (ap (bit_at w) q ∙ e)))
+-- whether some number of a range passes is whether one below its length does, counted from its start
+any-range : (t : ℕ → Bool) (k a : ℕ) → list_any t (range_with_len a k) ≡ any_below (λ i. t (a + i)) k
+unfolding any_below
+any-range t zero a = refl
+any-range t (suc k) a =
+    let z : a ≡ a + 0 = omega arith in
+    ap (λ (x : ℕ). t x || list_any t (range_with_len (a + 1) k)) z
+    ∙ ap (λ (b : Bool). t (a + 0) || b) (any-range t k (a + 1) ∙ any-cong (λ i. t (a + 1 + i)) (λ i. t (a + suc i)) k (λ i l. let e : a + 1 + i ≡ a + suc i = omega arith in ap t e))
+    ∙ sym (any-front (λ i. t (a + i)) k)
 
-  -- past one that is not the search goes on
-  pub spare_more : (j k : ℕ) → n ≤ j → k ≡ j + 1 → any_below (spare_one n w) (j - n) ≡ false → (bit_at w j ≡ 1 → ⊥) → any_below (spare_one n w) (k - n) ≡ false
-  spare_more j k l e h ne =
-      let q : n + (j - n) ≡ j = omega arith in
-      let s : k - n ≡ j - n + 1 = omega arith in
-      ap (any_below (spare_one n w)) s ∙ any_step (spare_one n w) (j - n)
-      ∙ rw (h, ne_eqb (bit_at w (n + (j - n))) 1 (λ f. ne (ap (bit_at w) (sym q) ∙ f)))
-
-  -- at the end of the last byte no spare place is set
-  pub spare-end : (j : ℕ) → j ≡ 8 * bytes_for n → any_below (spare_one n w) (j - n) ≡ false → false ≡ spare_set n w
-  unfolding spare_set
-  spare-end j e h = sym (ap (λ (k : ℕ). any_below (spare_one n w) (k - n)) (sym e) ∙ h)
+-- the places asked from n on are the spare places
+pub spare-asked : (n : ℕ) (w : List ℕ) → list_any (λ j. eqb (bit_at w j) 1) (range_with_len n (8 * bytes_for n - n)) ≡ spare_set n w
+unfolding spare_set
+spare-asked n w = any-range (λ j. eqb (bit_at w j) 1) (8 * bytes_for n - n) n

@@ -1,6 +1,5 @@
--- What one store does to a packed or an unpacked word, and the word that is made bit by bit.
+-- What one store does to a packed word, and the word that is made bit by bit.
 --   bit-set, bit-flipped   == a stored byte with one bit set or turned over sets or turns over that bit of the word alone
---   unpacked-more          == one bit more is unpacked
 --   eight                  == bit i of byte q of the word with bits z that ends at n
 --   binary_of              == the number with bits f 0 .. f (i - 1), the highest first
 --   binary-none            == the number without bits is 0
@@ -24,7 +23,7 @@ use Rattle.counting.specs.Paper.Sum.{sum_below}
 use Rattle.counting.specs.Paper.Lists.{listed, over}
 use Rattle.counting.proofs.Writes.{over-more}
 use Rattle.packed_word.specs.Paper.Packed.{bit_at, packed_byte}
-use Rattle.packed_word.specs.Steps.{SetBit, FlipBit, Unpacked}
+use Rattle.packed_word.specs.Steps.{SetBit, FlipBit}
 use Rattle.counting.specs.Digits.{binary_digit}
 use Rattle.counting.proofs.Digits.{or-here, or-there}
 use Rattle.packed_word.proofs.Masks.{xor-here, xor-there}
@@ -74,21 +73,6 @@ module _ (w : List ℕ) (j : ℕ) (fits : j / 8 < length w) where
         here = stored_here w j v fits ∙ xor-here b s;
         there = stored_there w j v fits (xor-there b s);
       }
-
--- ---- unpacking
-
--- one bit more is unpacked
-pub unpacked-more : (k : ℕ) (w old new : List ℕ) (x : ℕ) → k < 1023 → x ≡ bit_at w k → Unpacked k w old new → Unpacked (k + 1) w old (set new k x)
-unpacked-more k w old new x l e u =
-    record {
-      long = length-set new k x ∙ u.long;
-      each = λ j m.
-          elim (ℕ_discrete j k) [
-            | yes q ↦ rw q (get_or-set_same new k x 0 (omega (arith, u.long)) ∙ e)
-            | no ne ↦ get_or-set_other new k j x 0 ne ∙ u.each j (omega arith)
-          ];
-      rest = λ j m. get_or-set_other new k j x 0 (λ q. omega arith) ∙ u.rest j (omega arith);
-    }
 
 -- ---- packing
 

@@ -23,7 +23,7 @@ pub fn set_bit(w: &mut [u8], j: usize)
     requires { j / 8 < length w.old }
     ensures { SetBit w.old w.new j }
 {
-    w[j / 8] = w[j / 8] | (1 << (7 - j % 8));
+    w[j / 8] |= 1 << (7 - j % 8);
 }
 
 // Turns bit j of a packed word over, and changes no other, in the same form. No crate of this repository needs it yet.
@@ -31,46 +31,26 @@ pub fn flip_bit(w: &mut [u8], j: usize)
     requires { j / 8 < length w.old }
     ensures { FlipBit w.old w.new j }
 {
-    w[j / 8] = w[j / 8] ^ (1 << (7 - j % 8));
+    w[j / 8] ^= 1 << (7 - j % 8);
 }
 
-// Whether a place of the last byte that holds no bit of the word is set. There are at most seven such places,
-// of which `left` are still to be tested.
+// Whether a place of the last byte that holds no bit of the word is set. There are at most seven such places.
 // Only this repository's crates call it, with the bytes of n bits.
 pub fn spare_set(w: &[u8], n: usize) -> bool
     requires { (length w.now ≡ bytes_for n) × (n ≤ 1023) }
     ensures { result ≡ spare_set n w.now }
 {
-    let end = 8 * w.len();
-    let mut left = end - n;
-    while left > 0 {
-        if get_bit(w, end - left) == 1 {
-            return true;
-        }
-        left -= 1;
-    }
-    false
+    (n..8 * w.len()).any(|j| get_bit(w, j) == 1)
 }
 
-// Writes the n bits of a word into the first n cells, one to a cell.
-fn unpack_cells(w: &[u8], n: usize, cells: &mut [u8])
-    requires { (n ≤ 1023) × (n ≤ 8 * length w.now) × (length cells.old ≡ 1023) }
-    ensures { Unpacked n w.now cells.old cells.new }
-{
-    let mut j = 0;
-    while j < n {
-        cells[j] = get_bit(w, j);
-        j += 1;
-    }
-}
-
-// The same for an array. It is lent as a slice, since only the loan tells the proof that it has 1023 cells.
-// Only this repository's crates call it, with the bytes of n bits.
+// Writes the n bits of a word into the first n cells, one to a cell. Only this repository's crates call it, with the bytes of n bits.
 pub fn unpack(w: &[u8], n: usize, bits: &mut [u8; 1023])
     requires { (n ≤ 1023) × (n ≤ 8 * length w.now) }
     ensures { Unpacked n w.now bits.old bits.new }
 {
-    unpack_cells(w, n, bits);
+    for j in 0..n {
+        bits[j] = get_bit(w, j);
+    }
 }
 
 // Cell j, and 0 from place n on, so that the spare places of the last byte are clear.
@@ -95,10 +75,8 @@ fn packed_byte(bits: &[u8; 1023], n: usize, q: usize) -> u8
     ensures { result ≡ packed_byte n (at bits.now) q }
 {
     let mut b: u8 = 0;
-    let mut i = 0;
-    while i < 8 {
+    for i in 0..8 {
         b = with_bit(b, bit_or_zero(bits, n, 8 * q + i));
-        i += 1;
     }
     b
 }
@@ -110,9 +88,7 @@ pub fn pack_into(bits: &[u8; 1023], n: usize, w: &mut [u8])
     ensures { w.new ≡ over (pack n (at bits.now)) w.old }
 {
     let bytes = (n + 7) / 8;
-    let mut q = 0;
-    while q < bytes {
+    for q in 0..bytes {
         w[q] = packed_byte(bits, n, q);
-        q += 1;
     }
 }

@@ -11,7 +11,7 @@ ghost use Rattle.program_tables.specs.Tables.{tables_of};
 ghost use Rattle.program_block.specs.Loans.{Whole, BlockAnswered, Printable};
 ghost use Rattle.program_block.specs.Paper.Block.{block_line};
 
-use answers::{Answer, Refusal};
+use answers::{Refusal, Report};
 use iterative_levels::Kept;
 use matrix_check::Shape;
 use quantiser::Setting;
@@ -26,7 +26,7 @@ pub fn decode(
     setting: Setting,
     bytes: &[u8],
     word: &mut [u8],
-) -> Answer
+) -> Result<Report, Refusal>
     requires { Whole (matrix_of shape list.now) (setting_of setting) bytes.now word.old × (tables.now ≡ tables_of (matrix_of shape list.now) (setting_of setting)) }
     ensures { BlockAnswered (matrix_of shape list.now) (setting_of setting) bytes.now (said_of result) word.old word.new }
 {
@@ -36,7 +36,7 @@ pub fn decode(
     let mut bits = [0u8; 1023];
     let mut kept: [Kept; 1023] = [0; 1023];
     let mut marks = [0u8; 1023];
-    let place = program_samples::take_samples(
+    if let Some(place) = program_samples::take_samples(
         setting,
         &tables[..from],
         bytes,
@@ -45,9 +45,8 @@ pub fn decode(
         &mut bits,
         &mut kept,
         &mut marks,
-    );
-    if place < n {
-        return Answer::Refused(Refusal::Sample(place as u16));
+    ) {
+        return Err(Refusal::Sample(place as u16));
     }
     let limit = setting.limit;
     let stop = iterative_sets::run(
@@ -61,7 +60,7 @@ pub fn decode(
     );
     packed_word::pack_into(&bits, n, word);
     let changed = iterative_changed::turned(&marks, &bits, n);
-    Answer::Done(answers::ended(stop.rounds, stop.failing, changed))
+    Ok(answers::ended(stop.rounds, stop.failing, changed))
 }
 
 // The line of one block. Only this repository's crates call it, after asking refusals 1 to 6.

@@ -13,11 +13,10 @@ ghost use Rattle.program_ends.specs.Replies.{awaited_of, Asked, Replied, Replied
 
 use answers::Refusal;
 use matrix_check::Shape;
-use program_input::Opened;
 use quantiser::Setting;
 
 // What the run awaits: with the sizes that it has, the setting, and the number of the next block.
-#[derive(Clone, Copy)]
+#[derive(Clone, Copy, Debug, PartialEq)]
 pub enum Stage {
     AtSizes,
     AtList(Shape),
@@ -26,8 +25,9 @@ pub enum Stage {
     AtEnd,
 }
 
-// What follows: the stage, how many bytes it wants, and where the text in the output buffer ends.
-#[derive(Clone, Copy)]
+// What follows: the stage, how many bytes it wants, and where the text in the output buffer ends. The run is over where no byte is wanted:
+// a number, as `wanted` is in the definitions, since blocks past the 65,535th want none either.
+#[derive(Clone, Copy, Debug, PartialEq)]
 pub struct Next {
     pub stage: Stage,
     pub want: usize,
@@ -51,7 +51,7 @@ pub fn first(out: &mut [u8]) -> Next
     Next {
         stage: Stage::AtSizes,
         want: 8,
-        end: end,
+        end,
     }
 }
 
@@ -63,7 +63,7 @@ fn run_over(out: &[u8], end: usize) -> Next
     Next {
         stage: Stage::AtEnd,
         want: 0,
-        end: end,
+        end,
     }
 }
 
@@ -76,8 +76,8 @@ fn at_blocks(shape: Shape, setting: Setting, number: u16, end: usize) -> Next
     let want = program_turns::at_once(n, number) * (4 * n);
     Next {
         stage: Stage::AtBlocks(shape, setting, number),
-        want: want,
-        end: end,
+        want,
+        end,
     }
 }
 
@@ -98,7 +98,7 @@ fn after_sizes(bytes: &[u8], out: &mut [u8]) -> Next
     let want = 2 * entries(shape);
     Next {
         stage: Stage::AtList(shape),
-        want: want,
+        want,
         end: 0,
     }
 }
@@ -139,11 +139,11 @@ fn after_setting(
     let count = entries(shape);
     let opened = program_input::begin(shape, &list[..count], bytes);
     match opened {
-        Opened::Ready(setting) => {
+        Ok(setting) => {
             program_tables::build(shape, &list[..count], setting, tables);
             at_blocks(shape, setting, 0, 0)
         }
-        Opened::Refused(f) => {
+        Err(f) => {
             let end = program_text::put_refused(out, 0, f);
             run_over(out, end)
         }

@@ -1,21 +1,22 @@
 -- Laws of the lines of blocks: line after line, and the end of a chunk.
---   Lined H S i bs at old k from new end   == the lines of the first k blocks are put, and block k begins at `from`
---   lined-none                             == no line is put yet
---   counted                                == the next block is one of the whole blocks
---   lined-asks                             == its line may be put
---   lined-more                             == once it is put there is one line more
---   lined-all                              == where less than a block is left all lines are put
---   chunk_whole, chunk-cut                 == the text of a chunk that ends with a block, and of one that does not
---   chunk-ends                             == the text of a chunk ends in the buffer
+--   Lined H S i bs at old next rest new end   == the lines of the blocks before number `next` are put, and `rest` follows them in the bytes
+--   lined-none                                == no line is put yet
+--   counted                                   == the next block is one of the whole blocks
+--   lined-asks                                == its line may be put
+--   lined-more                                == once it is put there is one line more
+--   lined-all                                 == where less than a block is left all lines are put
+--   chunk_whole, chunk-cut                    == the text of a chunk that ends with a block, and of one that does not
+--   chunk-ends                                == the text of a chunk ends in the buffer
 -- Assumes nothing.
-use mathlib.Core.Path.{◌≡◌, sym, ap₂}
-use mathlib.Core.List.{List, append-nil}
+use mathlib.Core.Path.{◌≡◌, refl, sym, ap, ◌∙◌}
+use mathlib.Core.List.{List, ◌++◌, append-nil}
 use Prim.Native.Nat.{ℕ, suc, ◌+◌, ◌*◌, ◌-◌, ◌/◌, ◌%◌, ◌≤◌, ◌<◌}
 use native.Mathlib.Nat.{zero-mul, suc-mul, le-div_iff_mul-le, div-lt_iff_lt-mul}
 use native.Mathlib.Numerals.{add-one}
 use native.Mathlib.Omega.{arith}
 use borrow.Author.Tests.{eq-eqb, ne_eqb}
-use lib.ListN.{length, take, drop, length-take, length-drop}
+use lib.ListN.{length, take, drop, length-drop, length-append}
+use lib.Seq.{take-append_seam, drop-append_seam, drop-drop}
 use Rattle.matrix.specs.Paper.Code.{Matrix}
 use Rattle.quantiser_levels.specs.Paper.Samples.{Setting}
 use Rattle.program_text.specs.Paper.Output.{short_text}
@@ -44,58 +45,81 @@ module _ (H : Matrix) (S : Setting) where
   -- ---- line after line
 
   module _ (i : ℕ) (bs : List ℕ) (at : ℕ) (old : List ℕ) where
-    -- the lines of the first k blocks are put, and block k begins at `from`
-    pub record Lined (k from : ℕ) (new : List ℕ) (end : ℕ) : Type 0 where
-      pub begins : from ≡ k * (4 * H.n)
-      pub inside : from ≤ length bs
+    -- the lines of the first k blocks are put, the next block has the number `next`, and `rest` is what follows
+    pub record Lined (next : ℕ) (rest new : List ℕ) (end : ℕ) : Type 0 where
+      pub k : ℕ
+      pub numbered : next ≡ i + k
+      pub left : rest ≡ drop (k * (4 * H.n)) bs
+      pub inside : k * (4 * H.n) ≤ length bs
       pub put : PutWithin (289 * k) (block_lines H S i k bs) at old new end
 
     -- no line
-    pub lined-none : Lined 0 0 old at
+    pub lined-none : {rest : List ℕ} → rest ≡ bs → Lined i rest old at
     unfolding block_lines
-    lined-none = record { begins = sym (zero-mul (4 * H.n)); inside = omega arith; put = record { put = put-none at old; within = omega arith } }
+    lined-none e =
+        record {
+          k = 0;
+          numbered = omega arith;
+          left = rw (zero-mul (4 * H.n)) e;
+          inside = rw (zero-mul (4 * H.n)) (omega arith);
+          put = record { put = put-none at old; within = omega arith };
+        }
 
-    module _ (c : Countable H S i bs at old) {k from end : ℕ} {new : List ℕ} (l : Lined k from new end) where
+    module _ (c : Countable H S i bs at old) {next end : ℕ} {rest new : List ℕ} (l : Lined next rest new end) where
       some : 0 < 4 * H.n
       some = omega (arith, c.decodable.matrix.sizes.n_least)
 
-      -- another block fits
-      module _ (h : 4 * H.n ≤ length bs - from) where
-        -- the next block is one of the whole blocks
-        pub counted : k + 1 ≤ blocks_in H bs
-        counted = counts-more (4 * H.n) (length bs) k some (omega (arith, l.begins, l.inside, some))
+      long : length rest ≡ length bs - l.k * (4 * H.n)
+      long = ap length l.left ∙ length-drop (l.k * (4 * H.n)) bs
 
-        part : take (from + 4 * H.n - from) (drop from bs) ≡ block_at H bs k
+      -- another block is there
+      module _ (x rest' : List ℕ) (e : rest ≡ x ++ rest') (h : length x ≡ 4 * H.n) where
+        whole : length rest ≡ 4 * H.n + length rest'
+        whole = ap length e ∙ length-append x rest' ∙ ap (λ (k : ℕ). k + length rest') h
+
+        -- the next block is one of the whole blocks
+        pub counted : next + 1 ≤ i + blocks_in H bs
+        counted = omega (arith, l.numbered, counts-more (4 * H.n) (length bs) l.k some (omega (arith, long, whole, l.inside, some)))
+
+        part : x ≡ block_at H bs l.k
         unfolding block_at
-        part = let e : from + 4 * H.n - from ≡ 4 * H.n = omega arith in ap₂ (λ (a b : ℕ). take a (drop b bs)) e l.begins
+        part =
+            sym (take-append_seam x rest') ∙ ap (λ (k : ℕ). take k (x ++ rest')) h
+            ∙ ap (take (4 * H.n)) (sym e ∙ l.left)
 
         -- its line may be put
-        pub lined-asks : Printable H S (take (from + 4 * H.n - from) (drop from bs)) end new
+        pub lined-asks : Printable H S x end new
         lined-asks =
             record {
               decodable = c.decodable;
-              bytes = simp (length-take, length-drop) (omega (arith, l.inside));
-              room = omega (arith, c.room, counted, l.put.within, put-length l.put.put);
+              bytes = h;
+              room = omega (arith, c.room, counted, l.numbered, l.put.within, put-length l.put.put);
             }
 
         -- and then there is one line more
-        pub lined-more : {new' : List ℕ} {end' : ℕ} → PutWithin 289
-            (block_line H S (i + k) (take (from + 4 * H.n - from) (drop from bs))) end new new' end' → Lined (k + 1) (from + 4 * H.n) new' end'
+        pub lined-more : {new' : List ℕ} {end' : ℕ} → PutWithin 289 (block_line H S next x) end new new' end' → Lined (next + 1) rest' new' end'
         unfolding block_lines
         lined-more p =
             record {
-              begins = rw (add-one k, suc-mul k (4 * H.n)) (omega (arith, l.begins));
-              inside = omega (arith, l.inside, some);
+              k = l.k + 1;
+              numbered = omega (arith, l.numbered);
+              left =
+                  sym (drop-append_seam x rest') ∙ ap (λ (k : ℕ). drop k (x ++ rest')) h ∙ ap (drop (4 * H.n)) (sym e ∙ l.left)
+                  ∙ drop-drop (4 * H.n) (l.k * (4 * H.n)) bs ∙ ap (λ (k : ℕ). drop k bs) (sym step);
+              inside = rw step (omega (arith, long, whole, l.inside, some));
               put = record {
-                put = put_as (rw (part, add-one k)) (put_then l.put.put p.put);
+                put = put_as (rw (part, add-one l.k, l.numbered)) (put_then l.put.put p.put);
                 within = omega (arith, l.put.within, p.within);
               };
             }
+          where
+            step : (l.k + 1) * (4 * H.n) ≡ l.k * (4 * H.n) + 4 * H.n
+            step = rw (add-one l.k, suc-mul l.k (4 * H.n)) refl
 
       -- all lines
-      pub lined-all : length bs - from < 4 * H.n → PutWithin (289 * (blocks_in H bs)) (block_lines H S i (blocks_in H bs) bs) at old new end
+      pub lined-all : length rest < 4 * H.n → PutWithin (289 * (blocks_in H bs)) (block_lines H S i (blocks_in H bs) bs) at old new end
       lined-all h =
-          let e : k ≡ blocks_in H bs = counts_all (4 * H.n) (length bs) k some (omega (arith, l.begins, l.inside)) (omega (arith, l.begins)) in
+          let e : l.k ≡ blocks_in H bs = counts_all (4 * H.n) (length bs) l.k some l.inside (omega (arith, long, h, l.inside)) in
           rw e at l.put
 
     -- ---- the end of a chunk

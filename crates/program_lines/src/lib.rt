@@ -29,23 +29,11 @@ fn lines(
     ensures { PutWithin (289 * blocks_in (matrix_of shape list.now) bytes.now) (block_lines (matrix_of shape list.now) (setting_of setting) number (blocks_in (matrix_of shape list.now) bytes.now) bytes.now) at out.old out.new result }
 {
     let size = 4 * (shape.n as usize);
-    let mut k: u16 = 0;
-    let mut from = 0;
+    let mut next = number;
     let mut end = at;
-    while size <= bytes.len() - from {
-        let to = from + size;
-        end = block(
-            shape,
-            list,
-            tables,
-            setting,
-            number + k,
-            &bytes[from..to],
-            out,
-            end,
-        );
-        from = to;
-        k += 1;
+    for samples in bytes.chunks_exact(size) {
+        end = block(shape, list, tables, setting, next, samples, out, end);
+        next += 1;
     }
     end
 }

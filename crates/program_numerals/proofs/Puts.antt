@@ -1,18 +1,20 @@
 -- Laws of text put into a buffer: piece after piece.
 --   put-none     == the empty text leaves the buffer as it was
 --   put_then     == one text put after another is both put as one
+--   put_part     == a part of the buffer that is overwritten by a text
 --   put_as       == an equal text is put alike
 --   put-length   == the buffer is as long as before
 --   put_front    == what then stands before the end: what stood before the text, and the text
 --   put_rest     == what stands from the end on is what stood there
 -- Assumes nothing.
 use mathlib.Core.Path.{◌≡◌, refl, sym, ap, ap₂, ◌∙◌}
-use mathlib.Core.List.{List, [], ◌++◌}
+use mathlib.Core.List.{List, [], ◌++◌, append_assoc}
 use Prim.Native.Nat.{ℕ, ◌+◌, ◌≤◌}
 use native.Mathlib.Nat.{add-zero}
 use native.Mathlib.Omega.{arith}
+use borrow.Rule.Slice.PartMut.{put_mid}
 use lib.ListN.{length, take, drop, length-append}
-use lib.Seq.{sets, length-sets, sets-eq, take_at, drop_at, length-take-le}
+use lib.Seq.{sets, length-sets, sets-eq, take_at, drop_at, drop-drop, length-take-le}
 use Rattle.counting.proofs.Stores.{sets-append}
 use Rattle.program_numerals.specs.Texts.{Put}
 
@@ -26,6 +28,17 @@ put_then {s} {t} {at} {mid} {end} {a} {b} {c} p q =
     record {
       bytes = q.bytes ∙ ap (λ (x : List ℕ). sets x mid t) p.bytes ∙ ap (λ (x : ℕ). sets (sets a at s) x t) p.ends ∙ sym (sets-append a at s t);
       ends = omega (arith, p.ends, q.ends, length-append s t);
+    }
+
+-- a part that is overwritten by a text
+pub put_part : {t x out : List ℕ} {at k : ℕ} → at + length t ≤ length out → k ≡ length t → x ≡ t → Put t at out (put_mid at k out x) (at + length t)
+put_part {t} {x} {out} {at} {k} h e q =
+    record {
+      bytes =
+          rw (e, q)
+          (ap (λ (y : List ℕ). take at out ++ (t ++ y)) (drop-drop (length t) at out)
+          ∙ sym (append_assoc (take at out) t (drop (at + length t) out)) ∙ sym (sets-eq t out at h));
+      ends = refl;
     }
 
 -- an equal text

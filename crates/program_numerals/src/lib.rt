@@ -25,16 +25,13 @@ fn put_byte(out: &mut [u8], at: usize, b: u8) -> usize
 }
 
 // A text as it is. Only this repository's crates call it, where there is room.
+#[tactic(auto, using(crate::proofs::Puts::put_part))]
 pub fn put_text(out: &mut [u8], at: usize, text: &[u8]) -> usize
     requires { Room text.now at out.old }
     ensures { Put text.now at out.old out.new result }
 {
-    let mut end = at;
-    let mut i = 0;
-    while i < text.len() {
-        end = put_byte(out, end, text[i]);
-        i += 1;
-    }
+    let end = at + text.len();
+    out[at..end].copy_from_slice(text);
     end
 }
 
@@ -73,10 +70,8 @@ fn put_hex(out: &mut [u8], at: usize, word: &[u8]) -> usize
     ensures { Put (hex word.now) at out.old out.new result }
 {
     let mut end = at;
-    let mut i = 0;
-    while i < word.len() {
-        end = put_pair(out, end, word[i]);
-        i += 1;
+    for b in word {
+        end = put_pair(out, end, *b);
     }
     end
 }

@@ -2,7 +2,7 @@
 // Rests on `quantiser_guess`, `quantiser_table`, and on `byte_numbers`, `quantiser`, `iterative_levels` and `iterative_changed`. Document 01: "Samples and levels"; refusal 8.
 #![tactic(auto)]
 
-ghost use Rattle.std.specs.Prelude.{◌≡◌};
+ghost use Rattle.std.specs.Prelude.{◌≡◌, ◌<◌, IfSome, unwrap_or};
 ghost use Rattle.quantiser_settings.specs.Paper.Settings.{setting_of};
 ghost use Rattle.quantiser_table.specs.Least.{table_of};
 ghost use Rattle.program_samples.specs.Taken.{Takeable, Taken};
@@ -11,7 +11,7 @@ use iterative_levels::Kept;
 use quantiser_levels::Cell;
 use quantiser_settings::Setting;
 
-// By the exact rule. Answers the place of the first sample that is not finite, with nothing written, or how many samples there are.
+// By the exact rule. Answers the place of the first sample that is not finite, if there is one; then nothing is written.
 fn exact(
     setting: Setting,
     bytes: &[u8],
@@ -20,24 +20,23 @@ fn exact(
     bits: &mut [u8; 1023],
     kept: &mut [Kept; 1023],
     marks: &mut [u8; 1023],
-) -> usize
+) -> Option<usize>
     requires { Takeable (setting_of setting) bytes.now n middle bits.old kept.old marks.old }
-    ensures { Taken (setting_of setting) bytes.now n result bits.old bits.new kept.old kept.new marks.old marks.new }
+    ensures { Taken (setting_of setting) bytes.now n (unwrap_or result n) bits.old bits.new kept.old kept.new marks.old marks.new × IfSome result (λ r. r < n) }
 {
     let mut xs = [0f32; 1023];
-    let place = byte_numbers::samples(bytes, &mut xs);
-    if place < n {
-        return place;
+    if let Some(place) = byte_numbers::samples(bytes, &mut xs) {
+        return Some(place);
     }
     let mut levels: [Cell; 1023] = [0; 1023];
     quantiser::fill(setting, &xs[..n], &mut levels, bits);
     iterative_levels::bias(&levels, n, middle, kept);
     iterative_changed::mark(&levels, bits, n, marks);
-    place
+    None
 }
 
-// Writes hard bits, kept levels and marks of the samples, and answers how many there are; or answers the place of the first that is not finite,
-// with nothing written. Only this repository's crates call it, with the table of an accepted setting.
+// Writes hard bits, kept levels and marks of the samples; or answers the place of the first that is not finite, with nothing written.
+// Only this repository's crates call it, with the table of an accepted setting.
 pub fn take_samples(
     setting: Setting,
     table: &[u64],
@@ -47,12 +46,12 @@ pub fn take_samples(
     bits: &mut [u8; 1023],
     kept: &mut [Kept; 1023],
     marks: &mut [u8; 1023],
-) -> usize
+) -> Option<usize>
     requires { Takeable (setting_of setting) bytes.now n middle bits.old kept.old marks.old × (table.now ≡ table_of (setting_of setting)) }
-    ensures { Taken (setting_of setting) bytes.now n result bits.old bits.new kept.old kept.new marks.old marks.new }
+    ensures { Taken (setting_of setting) bytes.now n (unwrap_or result n) bits.old bits.new kept.old kept.new marks.old marks.new × IfSome result (λ r. r < n) }
 {
     if quantiser_guess::take(setting, table, bytes, n, middle, bits, kept, marks) {
-        return n;
+        return None;
     }
     exact(setting, bytes, n, middle, bits, kept, marks)
 }

@@ -9,7 +9,7 @@ ghost use Rattle.program_numerals.specs.Paper.Numerals.{ascii};
 ghost use Rattle.program_numerals.specs.Texts.{PutWithin};
 ghost use Rattle.program_text.specs.Paper.Output.{heading, short_text, refused_text, outcome_text, said_text, block_text};
 
-use answers::{Answer, Outcome, Refusal, Report};
+use answers::{Outcome, Refusal, Report};
 
 // The outcome's word and a space. A whole call that has not decoded has failed.
 fn put_outcome(out: &mut [u8], at: usize, o: Outcome) -> usize
@@ -45,8 +45,8 @@ pub fn put_refused(out: &mut [u8], at: usize, f: Refusal) -> usize
     ensures { PutWithin 20 (refused_text (refusal_number f) (refusal_place f)) at out.old out.new result }
 {
     let at = program_numerals::put_text(out, at, b"refused ");
-    let at = program_numerals::put_number(out, at, answers::number(f), b' ');
-    program_numerals::put_number(out, at, answers::place(f), b'\n')
+    let at = program_numerals::put_number(out, at, f.number(), b' ');
+    program_numerals::put_number(out, at, f.place(), b'\n')
 }
 
 // What follows the number in the line of a block that is decoded or failed.
@@ -63,13 +63,19 @@ fn put_report(out: &mut [u8], at: usize, p: Report, word: &[u8]) -> usize
 }
 
 // The line of a block. Only this repository's crates call it, where there is room.
-pub fn put_block(out: &mut [u8], at: usize, number: u16, answer: Answer, word: &[u8]) -> usize
+pub fn put_block(
+    out: &mut [u8],
+    at: usize,
+    number: u16,
+    answer: Result<Report, Refusal>,
+    word: &[u8],
+) -> usize
     requires { at + 33 + 2 * length word.now ≤ length out.old }
     ensures { PutWithin (33 + 2 * length word.now) (block_text number (said_of answer) word.now) at out.old out.new result }
 {
     let at = program_numerals::put_number(out, at, number, b' ');
     match answer {
-        Answer::Done(p) => put_report(out, at, p, word),
-        Answer::Refused(f) => put_refused(out, at, f),
+        Ok(p) => put_report(out, at, p, word),
+        Err(f) => put_refused(out, at, f),
     }
 }

@@ -2,14 +2,8 @@
 // Document 01: "Worked by hand", the paragraph on the program.
 #![tactic(auto)]
 
-ghost use Rattle.std.specs.Prelude.{min, ◌≤◌, ◌≡◌};
+ghost use Rattle.std.specs.Prelude.{◌≤◌};
 ghost use Rattle.program_turns.specs.Turns.{AtOnce};
-
-fn least(a: usize, b: usize) -> usize
-    ensures { result ≡ min a b }
-{
-    if a < b { a } else { b }
-}
 
 // What fits the input buffer, at most 200, whose lines fit the output buffer, and no more than are left of 65,535.
 // Only this repository's crates call it, with a block length in range.
@@ -18,6 +12,5 @@ pub fn at_once(n: usize, number: u16) -> usize
     ensures { AtOnce n number result }
 {
     let left = 65535 - number as usize;
-    let most = least(16368 / n, 200);
-    least(most, left)
+    (16368 / n).min(200).min(left)
 }

@@ -2,7 +2,7 @@
 // Rests on `quantiser_settings`, `quantiser_levels`, `packed_word` and `answers`. Document 01: "Samples and levels"; refusals 6, 7 and 8.
 #![tactic(auto)]
 
-ghost use Rattle.std.specs.Prelude.{◌≡◌};
+ghost use Rattle.std.specs.Prelude.{◌≡◌, ◌<◌, length, MatchOption};
 ghost use Rattle.answers.specs.Paper.Enums.{verdict_of};
 ghost use Rattle.quantiser_levels.specs.Paper.Samples.{first_not_finite, too_short};
 ghost use Rattle.quantiser_levels.specs.Scale.{Narrow};
@@ -10,23 +10,16 @@ ghost use Rattle.quantiser_settings.specs.Paper.Settings.{setting_of};
 ghost use Rattle.quantiser.specs.Buffers.{Roomy, FilledBy, Fillable, Filled};
 ghost use Rattle.quantiser.specs.Paper.Call.{Quantised};
 
-use answers::{Checked, Refusal};
+use answers::Refusal;
 use quantiser_levels::{Cell, Scale, hard_bit, is_finite, level_by};
 use quantiser_settings::scale_of;
 pub use quantiser_settings::{MOST_BITS, Setting, Step, setting_fits};
 
-// The place of the first sample that is not finite, or how many samples there are.
-pub fn first_not_finite(samples: &[f32]) -> usize
-    ensures { result ≡ first_not_finite samples.now }
+// The place of the first sample that is not finite, if there is one.
+pub fn first_not_finite(samples: &[f32]) -> Option<usize>
+    ensures { MatchOption result (first_not_finite samples.now ≡ length samples.now) (λ i. (i ≡ first_not_finite samples.now) × (i < length samples.now)) }
 {
-    let mut i = 0;
-    while i < samples.len() {
-        if !is_finite(samples[i]) {
-            return i;
-        }
-        i += 1;
-    }
-    i
+    samples.iter().position(|x| !is_finite(*x))
 }
 
 // Writes the levels of the samples by a scale, and their hard bits one to a cell.
@@ -35,13 +28,9 @@ fn fill_by(scale: Scale, samples: &[f32], levels: &mut [Cell], cells: &mut [u8])
     requires roomy { Roomy samples.now levels.old cells.old }
     ensures { FilledBy scale samples.now levels.old levels.new cells.old cells.new }
 {
-    let mut j = 0;
-    while j < samples.len() {
-        let x = samples[j];
-        let v = level_by(scale, x);
-        levels[j] = v;
-        cells[j] = hard_bit(x);
-        j += 1;
+    for (j, x) in samples.iter().enumerate() {
+        levels[j] = level_by(scale, *x);
+        cells[j] = hard_bit(*x);
     }
 }
 
@@ -58,32 +47,30 @@ pub fn fill(setting: Setting, samples: &[f32], levels: &mut [Cell], bits: &mut [
 fn too_short(n: usize, levels: usize, bytes: usize) -> bool
     ensures { result ≡ too_short n levels bytes }
 {
-    if 1023 < n {
-        return true;
-    }
-    if levels < n {
-        return true;
-    }
-    bytes < (n + 7) / 8
+    1023 < n || levels < n || bytes < (n + 7) / 8
 }
 
 // Writes the levels of the samples and their hard bits packed as a word, or says why not and writes nothing.
-pub fn quantise(setting: Setting, samples: &[f32], levels: &mut [Cell], word: &mut [u8]) -> Checked
+pub fn quantise(
+    setting: Setting,
+    samples: &[f32],
+    levels: &mut [Cell],
+    word: &mut [u8],
+) -> Result<(), Refusal>
     ensures { Quantised (setting_of setting) samples.now (verdict_of result) levels.old levels.new word.old word.new }
 {
     let n = samples.len();
     if !setting_fits(setting) {
-        return Checked::Refused(Refusal::Setting);
+        return Err(Refusal::Setting);
     }
     if too_short(n, levels.len(), word.len()) {
-        return Checked::Refused(Refusal::Buffer);
+        return Err(Refusal::Buffer);
     }
-    let found = first_not_finite(samples);
-    if found < n {
-        return Checked::Refused(Refusal::Sample(found as u16));
+    if let Some(place) = first_not_finite(samples) {
+        return Err(Refusal::Sample(place as u16));
     }
     let mut bits = [0u8; 1023];
     fill(setting, samples, levels, &mut bits);
     packed_word::pack_into(&bits, n, word);
-    Checked::Accepted
+    Ok(())
 }

@@ -28,21 +28,20 @@ fn guessed(x: f32, rate: f32, peak: f32) -> u32
     ensures { result < 2048 }
 {
     let y = x * rate;
+    // By hand, since `min` asks for a NaN once more.
     let y = if y < peak { y } else { peak };
     f32::to_bits(y + 8388608.0) % 2048
 }
 
-// The guesses of all samples. The compiled loop takes several at a time.
+// The guesses of all samples. The compiled loop takes several at a time, so that it goes by index.
 fn guess_all(bytes: &[u8], n: usize, rate: f32, peak: f32, guess: &mut [u16; 1023])
     requires { (T (finite peak)) × (length bytes.now ≡ 4 * n) × (n ≤ 1023) × (length guess.old ≡ 1023) }
     ensures { Guessed n guess.new }
 {
-    let mut j = 0;
-    while j < n {
+    for j in 0..n {
         let u = byte_numbers::number32(bytes, 4 * j);
         let p = bounded(u % 0x8000_0000);
         guess[j] = guessed(f32::from_bits(p), rate, peak) as u16;
-        j += 1;
     }
 }
 
@@ -54,17 +53,15 @@ fn fits(table: &[u64], g: usize, p: u64) -> bool
     (table[g] <= p) & (p < table[g + 1])
 }
 
-// Whether the table confirms every guess. No branch is taken within the loop.
+// Whether the table confirms every guess. No branch is taken within the loop, as `all` would take one.
 fn all_fit(bytes: &[u8], n: usize, table: &[u64], guess: &[u16; 1023]) -> bool
     requires { (length bytes.now ≡ 4 * n) × (n ≤ 1023) × (length table.now ≡ 2050) × (Guessed n guess.now) }
     ensures { result ≡ not (any_below (misfit table.now bytes.now guess.now) n) }
 {
     let mut ok = true;
-    let mut j = 0;
-    while j < n {
+    for j in 0..n {
         let p = byte_numbers::number32(bytes, 4 * j) % 0x8000_0000;
         ok = ok & fits(table, guess[j] as usize, p as u64);
-        j += 1;
     }
     ok
 }
@@ -88,7 +85,7 @@ fn bit_one(u: u32) -> u8
     if (u < 0x8000_0000) & (0 < u) { 1 } else { 0 }
 }
 
-// The mark of a place: its bit, or 2 where its level is 0.
+// The mark of a place: its bit, or 2 where its level is 0. `iterative_changed` has it of a signed level: here there is a magnitude, and a cast is no plainer.
 fn mark_one(g: u16, z: u8) -> u8
     ensures { result ≡ mark_by g z }
 {
@@ -108,20 +105,18 @@ fn place_all(
     requires { (length bytes.now ≡ 4 * n) × (n ≤ 1023) × (Confirmed middle n guess.now) × (length bits.old ≡ 1023) × (length kept.old ≡ 1023) × (length marks.old ≡ 1023) }
     ensures { Laid n middle bytes.now guess.now bits.old bits.new kept.old kept.new marks.old marks.new }
 {
-    let mut j = 0;
-    while j < n {
+    for j in 0..n {
         let u = byte_numbers::number32(bytes, 4 * j);
         let g = guess[j];
         let z = bit_one(u);
         bits[j] = z;
         kept[j] = kept_one(u, g, middle);
         marks[j] = mark_one(g, z);
-        j += 1;
     }
 }
 
 // Writes hard bits, kept levels and marks of the samples and says true; or says false and writes nothing, where the table does not confirm a guess
-// (so where a sample is not finite). Only this repository's crates call it, with the table of an accepted setting.
+// (so where a sample is not finite). A bool, as the samples stand in the lent arrays and there is no value to answer. Only this repository's crates call it, with the table of an accepted setting.
 pub fn take(
     setting: Setting,
     table: &[u64],

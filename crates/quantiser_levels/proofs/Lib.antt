@@ -1,3 +1,4 @@
 pub mod Floats
 pub mod Nearest
 pub mod Signs
+pub mod Firsts

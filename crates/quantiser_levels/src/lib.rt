@@ -13,8 +13,8 @@ pub type Cell = i16;
 // A sample half-way between two levels goes away from zero at 0, and toward zero at 1.
 const TIE: u64 = 0;
 
-// A finite float: its sign, and its magnitude as sig * 2 ^ shift units of 2 ^ -149.
-#[derive(Clone, Copy)]
+// A finite float by its own fields: its sign, and its magnitude as sig * 2 ^ shift units of 2 ^ -149.
+#[derive(Clone, Copy, Debug, PartialEq, Eq)]
 pub struct Parts {
     pub negative: bool,
     pub sig: u64,
@@ -22,7 +22,7 @@ pub struct Parts {
 }
 
 // What the levels of one setting have in common: the gain, the largest level, and the step's magnitude as in `Parts`.
-#[derive(Clone, Copy)]
+#[derive(Clone, Copy, Debug, PartialEq, Eq)]
 pub struct Scale {
     pub gain: u64,
     pub top: u64,
@@ -30,12 +30,11 @@ pub struct Scale {
     pub shift: u64,
 }
 
-// Whether a float is neither infinite nor a NaN: a NaN fails every comparison.
+// Whether a float is neither infinite nor a NaN.
 pub fn is_finite(x: f32) -> bool
     ensures { result ≡ finite x }
 {
-    let top = f32::from_bits(0x7f80_0000);
-    -top < x && x < top
+    x.is_finite()
 }
 
 // The hard bit comes from the sample and not from its level. Both zeros give 0.
@@ -74,19 +73,14 @@ fn capped(n: u64, d: u64, top: u64) -> u64
     requires { (n < 2 ^ 62) × (0 < d) × (d < 2 ^ 62) }
     ensures { result ≡ min top (nearest_whole n d) }
 {
-    let q = (2 * n + d - TIE) / (2 * d);
-    if q < top { q } else { top }
+    ((2 * n + d - TIE) / (2 * d)).min(top)
 }
 
 // How far the shift `a` is above the shift `b`, at most 27 places.
 fn places(a: u64, b: u64) -> u64
     ensures { result ≡ min 27 (a - b) }
 {
-    if a <= b {
-        return 0;
-    }
-    let k = a - b;
-    if k < 27 { k } else { 27 }
+    a.saturating_sub(b).min(27)
 }
 
 // The magnitude of a level: sample and step are shifted by what one has more than the other.
@@ -96,15 +90,9 @@ fn magnitude_of(s: Scale, y: Parts) -> u64
     requires { (Narrow s.gain s.top s.sig) × (Digits y.sig y.shift) }
     ensures { result ≡ min s.top (nearest_whole (s.gain * (y.sig * 2 ^ y.shift)) (s.sig * 2 ^ s.shift)) }
 {
-    let gain = s.gain;
-    let top = s.top;
-    let step = s.sig;
-    let down = s.shift;
-    let sig = y.sig;
-    let up = y.shift;
-    let n = (gain * sig) << places(up, down);
-    let d = step << places(down, up);
-    capped(n, d, top)
+    let n = (s.gain * y.sig) << places(y.shift, s.shift);
+    let d = s.sig << places(s.shift, y.shift);
+    capped(n, d, s.top)
 }
 
 // A magnitude with its sign. Minus 0 is 0.
@@ -122,9 +110,7 @@ pub fn level_by(s: Scale, x: f32) -> Cell
     ensures { result ≡ level_by s.gain s.top (s.sig * 2 ^ s.shift) x }
 {
     let y = take_apart(x);
-    let negative = y.negative;
-    let n = magnitude_of(s, y);
-    with_sign(negative, n)
+    with_sign(y.negative, magnitude_of(s, y))
 }
 
 // L, the largest level of so many bits. Only this repository's crates call it, with a width in range.

@@ -14,14 +14,14 @@ use quantiser_levels::{Scale, largest_of, take_apart};
 pub const MOST_BITS: u16 = 12;
 
 // The step: a level step or a full scale.
-#[derive(Clone, Copy)]
+#[derive(Clone, Copy, Debug, PartialEq)]
 pub enum Step {
     Level(f32),
     FullScale(f32),
 }
 
 // The bit width, the round limit and the step.
-#[derive(Clone, Copy)]
+#[derive(Clone, Copy, Debug, PartialEq)]
 pub struct Setting {
     pub bits: u16,
     pub limit: u16,
@@ -32,13 +32,7 @@ pub struct Setting {
 pub fn ranges_fit(bits: u16, limit: u16) -> bool
     ensures { result ≡ ranges_fit bits limit }
 {
-    if bits < 2 {
-        return false;
-    }
-    if MOST_BITS < bits {
-        return false;
-    }
-    limit <= 255
+    2 <= bits && bits <= MOST_BITS && limit <= 255
 }
 
 // Whether a setting may have this step: from 2 ^ -20 to 2 ^ 20. A NaN fails here too.
@@ -53,8 +47,7 @@ fn step_of(step: Step) -> f32
     ensures { result ≡ float_of step }
 {
     match step {
-        Step::Level(d) => d,
-        Step::FullScale(f) => f,
+        Step::Level(d) | Step::FullScale(d) => d,
     }
 }
 
@@ -62,13 +55,7 @@ fn step_of(step: Step) -> f32
 pub fn setting_fits(s: Setting) -> bool
     ensures { result ≡ setting_fits (setting_of s) }
 {
-    let bits = s.bits;
-    let limit = s.limit;
-    let step = s.step;
-    if !ranges_fit(bits, limit) {
-        return false;
-    }
-    step_fits(step_of(step))
+    ranges_fit(s.bits, s.limit) && step_fits(step_of(s.step))
 }
 
 // What a sample is multiplied by: a full scale is the largest level's, a level step that of level 1.
@@ -86,13 +73,10 @@ pub fn scale_of(setting: Setting) -> Scale
     requires { setting_fits (setting_of setting) ≡ true }
     ensures { Scaled (setting_of setting) result.gain result.top result.sig result.shift }
 {
-    let bits = setting.bits;
-    let step = setting.step;
-    let top = largest_of(bits) as u64;
-    let gain = gain_by(step, top);
-    let d = take_apart(step_of(step));
+    let top = u64::from(largest_of(setting.bits));
+    let d = take_apart(step_of(setting.step));
     Scale {
-        gain,
+        gain: gain_by(setting.step, top),
         top,
         sig: d.sig,
         shift: d.shift,

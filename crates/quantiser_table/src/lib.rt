@@ -21,7 +21,7 @@ fn magnitude_at(scale: Scale, p: u32) -> u16
 }
 
 // Where the least pattern of a level is looked for: from `from` on, and not beyond `to`.
-#[derive(Clone, Copy)]
+#[derive(Clone, Copy, Debug, PartialEq, Eq)]
 struct Span {
     from: u32,
     to: u32,
@@ -59,6 +59,7 @@ fn least_pattern(scale: Scale, q: u16, near: u32) -> u32
     let all = Span { from: 0, to: most };
     let below = narrowed(scale, q, all, near + 4);
     let mut s = narrowed(scale, q, below, near);
+    // No index is counted: each turn halves the span that is left.
     while s.from < s.to {
         let c = (s.from + s.to) / 2;
         s = narrowed(scale, q, s, c);
@@ -88,12 +89,10 @@ pub fn build(setting: Setting, table: &mut [u64])
     let scale = scale_of(setting);
     let mut before: u32 = 0;
     let mut last: u32 = 0;
-    let mut q = 0;
-    while q < 2050 {
+    for q in 0..2050 {
         let p = least_pattern(scale, q as u16, near(before, last));
         table[q] = p as u64;
         before = last;
         last = p;
-        q += 1;
     }
 }

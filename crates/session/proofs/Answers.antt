@@ -17,12 +17,14 @@ use native.Mathlib.Omega.{arith}
 use lib.IntN.{ℤ}
 use lib.Ieee.{Float, nan}
 use lib.ListN.{length, get_or}
+use Rattle.std.proofs.Common.{Result}
+use Rattle.answers.specs.declared.Report.{Report}
+use Rattle.answers.specs.declared.Refusal.{Refusal}
 use Rattle.counting.specs.Paper.Lists.{listed, over}
 use Rattle.counting.specs.Places.{at}
 use Rattle.counting.proofs.Writes.{length_over}
 use Rattle.answers.specs.Paper.Answers.{accepted, refused, refusal, report}
 use Rattle.answers.specs.Paper.Enums.{said_of}
-use Rattle.answers.specs.declared.Answer.{Answer}
 use Rattle.packed_word.specs.Paper.Packed.{bit_at, bytes_for, pack}
 use Rattle.packed_word.proofs.Packed.{length-pack, pack-cong}
 use Rattle.matrix.specs.Paper.Code.{Matrix, Word, failing}
@@ -78,7 +80,7 @@ module _ (H : Matrix) (w : List ℕ) (o : List ℤ) (h : Held) (s : Steppable H 
         ∙ bits_back H.n (stepped_state H h).z (λ i m. round-bits H _ _ i) h.word j l
 
     -- the record and the report that are made of the counts
-    pub step-leaves : (n-changed : ℕ) (answer : Answer) (session : Session)
+    pub step-leaves : (n-changed : ℕ) (answer : Result Report Refusal) (session : Session)
         → n-changed ≡ changed H.n (decided_in (level_at o)) (bit_at word') (bit_at w)
         → record_of session ≡ record_for H (state_after f (course_in h.rec) (h.rec.k + 1)) (course_in h.rec) (h.rec.k + 1)
         → said_of answer ≡ report (outcome_in (state_after f (course_in h.rec) (h.rec.k + 1))) (h.rec.k + 1) f n-changed
@@ -96,7 +98,7 @@ module _ (H : Matrix) (w : List ℕ) (o : List ℤ) (h : Held) (s : Steppable H 
 
 -- ---- a step as a whole
 
-module _ (H : Matrix) (w : List ℕ) (o : List ℤ) (h : Held) (answer : Answer) (session : Session) where
+module _ (H : Matrix) (w : List ℕ) (o : List ℤ) (h : Held) (answer : Result Report Refusal) (session : Session) where
   -- the whole step, accepted and refused
   pub leaves-stepped : (word' : List ℕ) (levels' : List ℤ) → step_verdict H w o h ≡ accepted → Leaves (stepped_left H w o h) answer session word' levels'
       → Leaves (step_of H w o h) answer session word' levels'
@@ -114,7 +116,7 @@ module _ (H : Matrix) (rows : Rows H) (counts : ℕ → Bool) (s : State) (r : �
     (same : (j : ℕ) → j < H.n → at cells j ≡ s.z j) (none : 0 ≡ changed H.n counts s.z r)
     (w : word' ≡ over (pack H.n (at cells)) h.word) (l : levels' ≡ over (listed H.n s.R) h.levels) where
   -- the record and the report that are made of the count
-  pub from-leaves : (course : Course) (f : ℕ) (answer : Answer) (session : Session) → f ≡ failing H (at cells)
+  pub from-leaves : (course : Course) (f : ℕ) (answer : Result Report Refusal) (session : Session) → f ≡ failing H (at cells)
       → record_of session ≡ record_for H (state_after f course 0) course 0
       → said_of answer ≡ report (outcome_in (state_after f course 0)) 0 f 0 → Leaves (opened_from H course counts s r h) answer session word' levels'
   from-leaves course f answer session e d a =
@@ -159,7 +161,7 @@ module _ (H : Matrix) (S : Setting) (xs : List Float) (h : Held) (o : Openable H
     none-changed = sym (changed-self H.n (decided_in (start_of S xs).R) (hard_bit xs))
 
     -- the record and the report made of the counts are the opening's on samples
-    pub open-leaves : (f : ℕ) (word' : List ℕ) (answer : Answer) (session : Session) → word' ≡ over (pack H.n (at cells)) h.word
+    pub open-leaves : (f : ℕ) (word' : List ℕ) (answer : Result Report Refusal) (session : Session) → word' ≡ over (pack H.n (at cells)) h.word
         → f ≡ failing H (at cells)
         → record_of session ≡ record_for H (state_after f (course_for S) 0) (course_for S) 0
         → said_of answer ≡ report (outcome_in (state_after f (course_for S) 0)) 0 f 0 → Leaves (opened_left H S xs h) answer session word' levels'
@@ -169,7 +171,7 @@ module _ (H : Matrix) (S : Setting) (xs : List Float) (h : Held) (o : Openable H
 
 -- ---- an opening as a whole
 
-module _ (H : Matrix) (S : Setting) (xs : List Float) (h : Held) (answer : Answer) (session : Session) where
+module _ (H : Matrix) (S : Setting) (xs : List Float) (h : Held) (answer : Result Report Refusal) (session : Session) where
   -- the whole opening, accepted and refused
   pub leaves-opened : (word' : List ℕ) (levels' : List ℤ) → open_verdict H S xs h ≡ accepted → Leaves (opened_left H S xs h) answer session word' levels'
       → Leaves (open_of H S xs h) answer session word' levels'

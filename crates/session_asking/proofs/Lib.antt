@@ -1,3 +1,2 @@
-pub mod Magnitudes
 pub mod Parts
 pub mod Questions

@@ -4,23 +4,23 @@
 --   opened-free                    == of the levels lent as those of the opening a step asks the number alone
 --   finite-first                   == where every sample is finite, the search for one that is not comes to the end
 --   accepted-open, open-accepted   == an opening is accepted exactly where what it asks holds
---   far-found                      == a level beyond the largest is found
---   far-more                       == past one that is not beyond the search goes on
+--   far-asked                      == to ask each of the first n levels is to ask the places below n
 --   known-usable, known-matrix     == where a step's first part accepts, the record is usable and the matrix accepted
 -- Assumes nothing.
-use mathlib.Core.Path.{◌≡◌, refl, sym, ◌∙◌}
+use mathlib.Core.Path.{◌≡◌, refl, sym, ap, ◌∙◌}
 use mathlib.Core.Bool.{Bool, true, false, not, ◌&&◌, ◌||◌}
-use mathlib.Core.List.{List}
-use Prim.Native.Nat.{ℕ, ◌+◌, ◌≤◌, ◌<◌}
+use mathlib.Core.List.{List, [], ◌∷◌}
+use Prim.Native.Nat.{ℕ, zero, suc, ◌≤◌, ◌<◌}
 use native.Mathlib.Omega.{arith}
-use borrow.Author.Tests.{ltb-false, leb-false, eqb-true, not-false, lt-ltb, le-ltb, lt-leb, eq-eqb}
-use lib.Dec.{T, eqb, leb}
+use borrow.Author.Tests.{ltb-false, leb-false, eqb-true, not-false, le-ltb, lt-leb, eq-eqb}
+use lib.Dec.{T, eqb, leb, ltb}
 use lib.IntN.{ℤ, pos, nat_abs}
 use lib.Ieee.{Float, nan}
 use lib.Ieee.Scale.{finite}
-use lib.ListN.{length, get_or}
+use lib.ListN.{length, get_or, take}
+use Rattle.std.specs.List.{list_any}
 use Rattle.counting.specs.Paper.Search.{any_below}
-use Rattle.counting.proofs.Searches.{never, and_left, and_right, or_left, or_right, any_step, any_none, any_at, any-clear, first-none}
+use Rattle.counting.proofs.Searches.{never, and_left, and_right, or_left, or_right, any_none, any-clear, first-none}
 use Rattle.answers.specs.Paper.Answers.{Verdict, accepted, refuse_when, and_then}
 use Rattle.answers.proofs.Verdicts.{passed, passed_on, fit-lengths}
 use Rattle.packed_word.specs.Paper.Packed.{bytes_for, spare_set}
@@ -170,14 +170,27 @@ module _ (H : Matrix) (S : Setting) (xs : List Float) (h : Held) where
 
 -- ---- a search for a level beyond ±L
 
-module _ (L : ℕ) (R : List ℤ) where
-  -- it is found
-  pub far-found : (n j x : ℕ) → j < n → x ≡ nat_abs (get_or R j (pos 0)) → L < x → true ≡ any_below (far L R) n
-  far-found n j x l e h = sym (any_at (far L R) n j l (lt-ltb L (nat_abs (get_or R j (pos 0))) (omega arith)))
+or-none : (b : Bool) → b ≡ (b || false)
+or-none true = refl
+or-none false = refl
 
-  -- the search goes on
-  pub far-more : (j x : ℕ) → any_below (far L R) j ≡ false → x ≡ nat_abs (get_or R j (pos 0)) → x ≤ L → any_below (far L R) (j + 1) ≡ false
-  far-more j x e q h = any_step (far L R) j ∙ rw (e, le-ltb L (nat_abs (get_or R j (pos 0))) (omega arith))
+or-assoc : (a b c : Bool) → ((a || b) || c) ≡ (a || (b || c))
+or-assoc true b c = refl
+or-assoc false b c = refl
+
+-- the first place, then the others
+any-first : (t : ℕ → Bool) (k : ℕ) → any_below t (suc k) ≡ (t 0 || any_below (λ j. t (suc j)) k)
+unfolding any_below
+any-first t zero = or-none (t 0)
+any-first t (suc k) = ap (λ (b : Bool). b || t (suc k)) (any-first t k) ∙ or-assoc (t 0) (any_below (λ j. t (suc j)) k) (t (suc k))
+
+-- each of the first n levels, and the places below n
+pub far-asked : (L n : ℕ) (R : List ℤ) → n ≤ length R → list_any (λ r. ltb L (nat_abs r)) (take n R) ≡ any_below (far L R) n
+unfolding any_below
+far-asked L zero R h = refl
+far-asked L (suc n) [] h = absurd (omega arith)
+far-asked L (suc n) (r ∷ R) h =
+    ap (λ (b : Bool). ltb L (nat_abs r) || b) (far-asked L n R (omega arith)) ∙ sym (any-first (far L (r ∷ R)) n)
 
 -- ---- the first part of what a step asks: its record and its matrix
 

@@ -2,7 +2,7 @@
 // Rests on `session_record`, `quantiser_levels`, `quantiser_settings`, `syndrome`, `packed_word` and `matrix_check`. Document 01: "Refused for the session"; refusals 1 to 9.
 #![tactic(auto)]
 
-ghost use Rattle.std.specs.Prelude.{◌≡◌, ◌≤◌, [], nat_abs, length};
+ghost use Rattle.std.specs.Prelude.{◌≡◌, ◌≤◌, [], length};
 ghost use Rattle.counting.specs.Paper.Search.{any_below};
 ghost use Rattle.answers.specs.Paper.Enums.{verdict_of};
 ghost use Rattle.packed_word.specs.Paper.Packed.{bytes_for};
@@ -14,7 +14,7 @@ ghost use Rattle.session_asking.specs.Paper.PlainCalls.{Usable};
 ghost use Rattle.session_asking.specs.Parts.{out_of_range, far, beyond_in, known_verdict, lent_verdict};
 ghost use Rattle.session_asking.specs.Paper.Asked.{held_of};
 
-use answers::{Checked, Refusal, and_then, refused_when};
+use answers::{Refusal, refused_when};
 use matrix_check::Shape;
 use quantiser_levels::{Cell, largest_of};
 use session_record::{Session, State};
@@ -23,67 +23,42 @@ use session_record::{Session, State};
 fn out_of_range(bits: u16, limit: u16, k: u16) -> bool
     ensures { result ≡ out_of_range bits limit k }
 {
-    if !quantiser_settings::ranges_fit(bits, limit) {
-        return true;
-    }
-    limit <= k
+    !quantiser_settings::ranges_fit(bits, limit) || limit <= k
 }
 
 // Refusal 20.
+#[tactic(auto, unfolding(crate::specs::Paper::Asked::unusable))]
 fn is_unusable(session: Session) -> bool
     ensures { result ≡ unusable (record_of session) }
 {
-    let state = session.state;
-    match state {
+    match session.state {
         State::Empty => true,
         State::Working => out_of_range(session.bits, session.limit, session.k),
-        State::Decoded => false,
-        State::Failed => false,
+        State::Decoded | State::Failed => false,
     }
 }
 
 // Refusal 21.
+#[tactic(auto, unfolding(crate::specs::Paper::Asked::ended))]
 fn is_ended(session: Session) -> bool
     ensures { result ≡ ended (record_of session) }
 {
-    let state = session.state;
-    match state {
-        State::Empty => false,
-        State::Working => false,
-        State::Decoded => true,
-        State::Failed => true,
-    }
+    matches!(session.state, State::Decoded | State::Failed)
 }
 
 // Refusal 22.
+#[tactic(auto, unfolding(crate::specs::Paper::Asked::other_sizes))]
 fn sizes_differ(shape: Shape, session: Session) -> bool
     ensures { result ≡ other_sizes (matrix_of shape []) (record_of session) }
 {
-    let n = session.n;
-    let m = session.m;
-    let rho = session.rho;
-    let gamma = session.gamma;
-    if shape.n != n {
-        return true;
-    }
-    if shape.m != m {
-        return true;
-    }
-    if shape.rho != rho {
-        return true;
-    }
-    shape.gamma != gamma
-}
-
-// The magnitude of a level. That of -32,768 fits no cell.
-fn magnitude(r: Cell) -> u16
-    ensures { result ≡ nat_abs r }
-{
-    let wide = r as i32;
-    if wide < 0 {
-        return (0 - wide) as u16;
-    }
-    wide as u16
+    let Session {
+        n,
+        m,
+        rho,
+        gamma,
+        ..
+    } = session;
+    shape != Shape { n, m, rho, gamma }
 }
 
 // Whether one of the first n levels lies beyond ±L.
@@ -91,15 +66,7 @@ fn any_far(levels: &[Cell], n: usize, middle: u16) -> bool
     requires { n ≤ length levels.now }
     ensures { result ≡ any_below (far middle levels.now) n }
 {
-    let mut j = 0;
-    while j < n {
-        let r = levels[j];
-        if middle < magnitude(r) {
-            return true;
-        }
-        j += 1;
-    }
-    false
+    levels[..n].iter().any(|r| middle < r.unsigned_abs())
 }
 
 // Refusal 23: a spare place set in the word, or one of the first n levels beyond ±L.
@@ -108,21 +75,18 @@ fn is_beyond(n: usize, middle: u16, word: &[u8], levels: &[Cell]) -> bool
     ensures { result ≡ beyond_in n middle word.now levels.now }
 {
     let need = (n + 7) / 8;
-    if packed_word::spare_set(&word[..need], n) {
-        return true;
-    }
-    any_far(levels, n, middle)
+    packed_word::spare_set(&word[..need], n) || any_far(levels, n, middle)
 }
 
 // What a step asks of its record and its matrix: 20, 21, 1 to 5, 22.
-fn ask_known(session: Session, shape: Shape, list: &[u16]) -> Checked
+#[tactic(auto, unfolding(crate::specs::Parts::known_verdict, crate::specs::Paper::Asked::other_sizes))]
+fn ask_known(session: Session, shape: Shape, list: &[u16]) -> Result<(), Refusal>
     ensures { verdict_of result ≡ known_verdict (matrix_of shape list.now) (record_of session) }
 {
-    let unusable = refused_when(is_unusable(session), Refusal::Record);
-    let ended = refused_when(is_ended(session), Refusal::Ended);
-    let matrix = matrix_check::check(shape, list);
-    let sizes = refused_when(sizes_differ(shape, session), Refusal::OtherSizes);
-    and_then(and_then(unusable, ended), and_then(matrix, sizes))
+    refused_when(is_unusable(session), Refusal::Record)?;
+    refused_when(is_ended(session), Refusal::Ended)?;
+    matrix_check::check(shape, list)?;
+    refused_when(sizes_differ(shape, session), Refusal::OtherSizes)
 }
 
 // What a step asks of what is lent with them: 7, 9, 23. Of the opening's levels it asks how many there are, and nothing else.
@@ -134,20 +98,17 @@ fn ask_lent(
     opened: &[Cell],
     word: &[u8],
     levels: &[Cell],
-) -> Checked
+) -> Result<(), Refusal>
     requires { Accepted (matrix_of shape list.now) × Usable (record_of session) }
     ensures { verdict_of result ≡ lent_verdict (matrix_of shape list.now) received.now opened.now (held_of session word.now levels.now) }
 {
     let n = shape.n as usize;
     let middle = largest_of(session.bits);
     if opened.len() != n {
-        return Checked::Refused(Refusal::Buffer);
+        return Err(Refusal::Buffer);
     }
-    let asked = syndrome::ask_word(n, received, word.len(), levels.len());
-    match asked {
-        Checked::Accepted => refused_when(is_beyond(n, middle, word, levels), Refusal::Beyond),
-        Checked::Refused(f) => Checked::Refused(f),
-    }
+    syndrome::ask_word(n, received, word.len(), levels.len())?;
+    refused_when(is_beyond(n, middle, word, levels), Refusal::Beyond)
 }
 
 // What a step asks, in its order.
@@ -159,12 +120,9 @@ pub fn ask_step(
     opened: &[Cell],
     word: &[u8],
     levels: &[Cell],
-) -> Checked
+) -> Result<(), Refusal>
     ensures { verdict_of result ≡ step_verdict (matrix_of shape list.now) received.now opened.now (held_of session word.now levels.now) }
 {
-    let known = ask_known(session, shape, list);
-    match known {
-        Checked::Accepted => ask_lent(session, shape, list, received, opened, word, levels),
-        Checked::Refused(f) => Checked::Refused(f),
-    }
+    ask_known(session, shape, list)?;
+    ask_lent(session, shape, list, received, opened, word, levels)
 }

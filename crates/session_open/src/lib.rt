@@ -8,7 +8,7 @@ ghost use Rattle.session_asking.specs.Paper.Asked.{held_of};
 ghost use Rattle.session.specs.Paper.Steps.{open_of};
 ghost use Rattle.session.specs.Paper.Call.{Leaves};
 
-use answers::Answer;
+use answers::{Refusal, Report};
 use matrix_check::Shape;
 use quantiser::Setting;
 use quantiser_levels::Cell;
@@ -23,7 +23,7 @@ pub fn open(
     samples: &[f32],
     word: &mut [u8],
     levels: &mut [Cell],
-) -> Answer
+) -> Result<Report, Refusal>
     ensures { Leaves (open_of (matrix_of shape list.now) (setting_of setting) samples.now (held_of session.old word.old levels.old)) result session.new word.new levels.new }
 {
     let opened = session_opening::open_value(*session, shape, list, setting, samples, word, levels);
@@ -31,7 +31,7 @@ pub fn open(
     opened.answer
 }
 
-// `open` on a copy of the record, which is handed back: for callers that keep the record as numbers.
+// `open` on a copy of the record, which is handed back: for the C interface, whose caller keeps the record as numbers. So both forms stay.
 pub fn open_copy(
     session: Session,
     shape: Shape,

@@ -14,7 +14,7 @@ ghost use Rattle.session.specs.Paper.Steps.{opened_left, open_of};
 ghost use Rattle.session.specs.RoundParts.{blank};
 ghost use Rattle.session.specs.Paper.Call.{Leaves};
 
-use answers::Checked;
+use answers::Refusal;
 use matrix_check::Shape;
 use quantiser::Setting;
 use quantiser_levels::Cell;
@@ -28,15 +28,12 @@ fn ask_open(
     samples: &[f32],
     bytes: usize,
     room: usize,
-) -> Checked
+) -> Result<(), Refusal>
     ensures { verdict_of result ≡ iterative_verdict (matrix_of shape list.now) (setting_of setting) samples.now bytes room }
 {
     let n = shape.n as usize;
-    let asked = matrix_check::check(shape, list);
-    match asked {
-        Checked::Accepted => iterative_core::ask_samples(n, setting, samples, bytes, room),
-        Checked::Refused(f) => Checked::Refused(f),
-    }
+    matrix_check::check(shape, list)?;
+    iterative_core::ask_samples(n, setting, samples, bytes, room)
 }
 
 // An opening that no refusal applies to: levels and hard bits, and what is counted on them.
@@ -77,7 +74,7 @@ pub fn open_value(
 {
     let asked = ask_open(shape, list, setting, samples, word.len(), levels.len());
     match asked {
-        Checked::Accepted => open_accepted(shape, list, setting, samples, word, levels),
-        Checked::Refused(f) => session_record::refuse(session, f),
+        Ok(()) => open_accepted(shape, list, setting, samples, word, levels),
+        Err(f) => session_record::refuse(session, f),
     }
 }

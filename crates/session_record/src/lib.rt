@@ -9,11 +9,11 @@ ghost use Rattle.matrix.specs.Paper.Shapes.{matrix_of};
 ghost use Rattle.session_record.specs.Paper.Record.{record_for, state_after, outcome_in};
 ghost use Rattle.session_record.specs.Paper.Sessions.{state_number, known_state, course_of, record_of};
 
-use answers::{Answer, Outcome, Refusal, Report};
+use answers::{Outcome, Refusal, Report};
 use matrix_check::Shape;
 
 // How a session stands.
-#[derive(Clone, Copy)]
+#[derive(Clone, Copy, Debug, PartialEq, Eq)]
 pub enum State {
     Empty,
     Working,
@@ -22,14 +22,14 @@ pub enum State {
 }
 
 // What stays through a session: bit width and round limit.
-#[derive(Clone, Copy)]
+#[derive(Clone, Copy, Debug, PartialEq, Eq)]
 pub struct Course {
     pub bits: u16,
     pub limit: u16,
 }
 
 // The caller's record of a session: its state, bit width, round limit, round and sizes.
-#[derive(Clone, Copy)]
+#[derive(Clone, Copy, Debug, PartialEq, Eq)]
 pub struct Session {
     pub state: State,
     pub bits: u16,
@@ -42,10 +42,10 @@ pub struct Session {
 }
 
 // What a call leaves: the record, and its answer.
-#[derive(Clone, Copy)]
+#[derive(Clone, Copy, Debug, PartialEq, Eq)]
 pub struct Turn {
     pub session: Session,
-    pub answer: Answer,
+    pub answer: Result<Report, Refusal>,
 }
 
 // The state's number: 0 empty, 1 working, 2 decoded, 3 failed.
@@ -60,20 +60,16 @@ pub fn number_of(state: State) -> u16
     }
 }
 
-// The state of a number. Any other number is taken as empty.
+// The state of a number, as the C interface has it. Any other number is taken as empty, so that this is no `TryFrom`.
 pub fn state_of(number: u16) -> State
     ensures { state_number result ≡ known_state number }
 {
-    if number == 1 {
-        return State::Working;
+    match number {
+        1 => State::Working,
+        2 => State::Decoded,
+        3 => State::Failed,
+        _ => State::Empty,
     }
-    if number == 2 {
-        return State::Decoded;
-    }
-    if number == 3 {
-        return State::Failed;
-    }
-    State::Empty
 }
 
 // Steps 2 and 3: how a word with so many failing checks leaves the session.
@@ -81,12 +77,12 @@ fn state_after(failing: u16, course: Course, k: u16) -> State
     ensures { state_number result ≡ state_after failing (course_of course) k }
 {
     if failing == 0 {
-        return State::Decoded;
+        State::Decoded
+    } else if k == course.limit {
+        State::Failed
+    } else {
+        State::Working
     }
-    if k == course.limit {
-        return State::Failed;
-    }
-    State::Working
 }
 
 // The outcome that an answer says of a state. No call leaves an empty record.
@@ -94,8 +90,7 @@ fn outcome_in(state: State) -> Outcome
     ensures { outcome_of result ≡ outcome_in (state_number state) }
 {
     match state {
-        State::Empty => Outcome::Working,
-        State::Working => Outcome::Working,
+        State::Empty | State::Working => Outcome::Working,
         State::Decoded => Outcome::Decoded,
         State::Failed => Outcome::Failed,
     }
@@ -118,7 +113,7 @@ pub fn after_round(shape: Shape, course: Course, k: u16, failing: u16, changed: 
         rho: shape.rho,
         gamma: shape.gamma,
     };
-    let answer = Answer::Done(Report {
+    let answer = Ok(Report {
         outcome,
         rounds: k,
         failing,
@@ -132,7 +127,7 @@ pub fn refuse(session: Session, f: Refusal) -> Turn
     ensures { (result.session ≡ session) × (said_of result.answer ≡ refusal (refusal_number f) (refusal_place f)) }
 {
     let kept = session;
-    let answer = Answer::Refused(f);
+    let answer = Err(f);
     Turn {
         session: kept,
         answer,

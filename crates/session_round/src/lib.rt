@@ -14,7 +14,6 @@ ghost use Rattle.session.specs.Paper.Steps.{stepped_left, step_of};
 ghost use Rattle.session.specs.RoundParts.{RoundLent, RoundLeft};
 ghost use Rattle.session.specs.Paper.Call.{Leaves};
 
-use answers::Checked;
 use iterative_levels::Kept;
 use matrix_check::Shape;
 use quantiser_levels::{Cell, largest_of};
@@ -98,7 +97,7 @@ pub fn step_value(
 {
     let asked = session_asking::ask_step(session, shape, list, received, opened, word, levels);
     match asked {
-        Checked::Accepted => step_accepted(session, shape, list, received, opened, word, levels),
-        Checked::Refused(f) => session_record::refuse(session, f),
+        Ok(()) => step_accepted(session, shape, list, received, opened, word, levels),
+        Err(f) => session_record::refuse(session, f),
     }
 }

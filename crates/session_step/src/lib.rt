@@ -7,7 +7,7 @@ ghost use Rattle.session_asking.specs.Paper.Asked.{held_of};
 ghost use Rattle.session.specs.Paper.Steps.{step_of};
 ghost use Rattle.session.specs.Paper.Call.{Leaves};
 
-use answers::Answer;
+use answers::{Refusal, Report};
 use matrix_check::Shape;
 use quantiser_levels::Cell;
 use session_record::{Session, Turn};
@@ -21,7 +21,7 @@ pub fn step(
     opened: &[Cell],
     word: &mut [u8],
     levels: &mut [Cell],
-) -> Answer
+) -> Result<Report, Refusal>
     ensures { Leaves (step_of (matrix_of shape list.now) received.now opened.now (held_of session.old word.old levels.old)) result session.new word.new levels.new }
 {
     let stepped = session_round::step_value(*session, shape, list, received, opened, word, levels);
@@ -29,7 +29,7 @@ pub fn step(
     stepped.answer
 }
 
-// `step` on a copy of the record, which is handed back: for callers that keep the record as numbers.
+// `step` on a copy of the record, which is handed back: for the C interface, whose caller keeps the record as numbers. So both forms stay.
 pub fn step_copy(
     session: Session,
     shape: Shape,

@@ -1,5 +1,6 @@
 -- Laws of a matrix in blocks: where its rows stand, each loop's step, and what the parts say together.
 --   yes-says, no_says               == yes is said where the statement holds, no where it does not
+--   all-says                        == what `all` says of a statement about each number below a bound
 --   filled-says                     == blocks of a size that is not 0 fill what has no remainder, and nothing else
 --   size-most                       == they are no larger than 1,023
 --   row_in, first-in                == the rows of a block row are rows of the matrix
@@ -13,8 +14,8 @@
 --   turned-is                       == a block's start and the turned shift are the turned entry
 --   strays-most                     == there are at most as many strays as entries
 --   stray-step                      == one entry more in the count
---   follows-none, follows-step      == no row yet, and a row without strays
---   follows-fails                   == a row that has some
+--   row-follows, row-strays         == a row without strays, and one that has some
+--   follows-says                    == all rows of a block row are one statement
 --   row-at-start                    == in one of the rows an entry stands at the start of its block
 --   turned_apart                    == entries that ascend in all rows stand in blocks that ascend
 --   follows-apart                   == so no two entries of a first row that the others follow stand in one block
@@ -22,20 +23,24 @@
 --   grid-of                         == where blocks fill the matrix and every block row stands it is a grid
 --   grid-stands, grid-filled        == and a grid is that
 --   says_so, says-not               == what `describes` says where the matrix is a grid, and where it is none
+--   grid-says                       == so where blocks fill the matrix its block rows tell
 -- Assumes nothing.
 use Prim.Native.Nat.{ℕ, suc, ◌+◌, ◌*◌, ◌-◌, ◌/◌, ◌%◌, ◌≤◌, ◌<◌}
-use mathlib.Core.Path.{◌≡◌, refl, sym, ap, ◌∙◌}
+use mathlib.Core.Path.{◌≡◌, refl, sym, ap, subst, ◌∙◌}
 use mathlib.Core.Bool.{Bool, true, false, not, ◌&&◌}
 use mathlib.Core.List.{List}
 use native.Mathlib.Nat.{zero-mul, div-eq_of_lt, div-add-mod', div-mul-le_self, mod-lt, mul-le-mul}
 use native.Mathlib.Numerals.{add-one}
 use native.Mathlib.Decide.{ℕ_discrete, dec_lt}
 use native.Mathlib.Omega.{arith}
-use borrow.Author.Tests.{eqb-true, eq-eqb}
+use borrow.Author.Tests.{eqb-true, eqb-false, eq-eqb}
 use lib.Arith.{digits_lt}
 use lib.Dec.{eqb}
 use lib.ListN.{length}
 use mir.Val.{bool_byte}
+use Rattle.std.specs.Bool.{MatchBool}
+use Rattle.std.specs.List.{range_with_len, AllWithin, HoldsAt}
+use Rattle.std.proofs.lemmas.List.FromFn.{length-range_with_len, get_or-range_with_len}
 use Rattle.counting.specs.Paper.Sum.{sum_below, unequal}
 use Rattle.counting.specs.Paper.Lists.{listed, over}
 use Rattle.counting.specs.Places.{at}
@@ -61,6 +66,18 @@ yes-says p = record { so = λ _. p; not_so = λ e. absurd (never e) }
 -- no where it does not
 pub no_says : {P : Type 0} → (P → ⊥) → Says P false
 no_says n = record { so = λ e. absurd (never (sym e)); not_so = λ _. n }
+
+-- the same of a statement about each number below n, by what `all` of an iterator over these numbers says
+pub all-says : {Yes No P : ℕ → Type 0} (n : ℕ) (b : Bool) → ((k : ℕ) → k < n → Yes k → P k) → ((k : ℕ) → k < n → No k → P k → ⊥)
+    → MatchBool b (AllWithin Yes (range_with_len 0 n) 0 (length (range_with_len 0 n)))
+    ((k : ℕ) × (k < length (range_with_len 0 n)) × HoldsAt No (range_with_len 0 n) k)
+    → Says ((k : ℕ) → k < n → P k) b
+all-says {Yes} n true f g h =
+    yes-says
+    (λ k l. f k l (subst Yes (get_or-range_with_len 0 n k 0 l ∙ omega arith) (h k 0 (omega arith) (omega (arith, length-range_with_len 0 n)))))
+all-says {Yes} {No} n false f g h =
+    let l : h.0 < n = omega (arith, h.1, length-range_with_len 0 n) in
+    no_says (λ p. g h.0 l (subst No (get_or-range_with_len 0 n h.0 0 l ∙ omega arith) (h.2 0)) (p h.0 l))
 
 -- ---- blocks that fill the matrix
 
@@ -181,25 +198,28 @@ unfolding sum_below strays unequal
 stray-step l rho Z r i k c y e h =
     rw (add-one k, byte_flag (not (eqb (at l ((r * Z + i) * rho + k)) y)), e) (omega (arith, h))
 
-module _ (H : Matrix) (Z r : ℕ) where
-  -- no row yet
-  pub follows-none : Follows H Z r 0
-  unfolding Follows
-  follows-none i k h g = absurd (omega arith)
+-- row i of block row r is its first row, turned
+abbrev pub FollowsAt : Matrix → ℕ → ℕ → ℕ → Type 0
+FollowsAt H Z r i = (k : ℕ) → k < H.rho → entry H (r * Z + i) k ≡ turned Z (first_entry H Z r k) i
 
+module _ (H : Matrix) (Z r i : ℕ) where
   -- a row without strays
-  pub follows-step : (i c : ℕ) → c ≡ sum_below H.rho (strays H.list H.rho Z r i) → c ≡ 0 → Follows H Z r i → Follows H Z r (i + 1)
-  unfolding Follows strays entry first_entry
-  follows-step i c e z all x k h g =
-      elim (ℕ_discrete x i) [
-        | yes q ↦ rw q (differ-zero _ _ (omega (arith, e, z, sum-term H.rho (strays H.list H.rho Z r i) k g)))
-        | no ne ↦ all x k (omega arith) g
-      ]
+  pub row-follows : eqb (sum_below H.rho (strays H.list H.rho Z r i)) 0 ≡ true → FollowsAt H Z r i
+  unfolding strays entry first_entry
+  row-follows e k g =
+      differ-zero _ _ (omega (arith, eqb-true (sum_below H.rho (strays H.list H.rho Z r i)) 0 e, sum-term H.rho (strays H.list H.rho Z r i) k g))
 
   -- one that has some
-  pub follows-fails : (i c : ℕ) → i < Z → c ≡ sum_below H.rho (strays H.list H.rho Z r i) → (c ≡ 0 → ⊥) → Follows H Z r Z → ⊥
-  unfolding Follows strays entry first_entry
-  follows-fails i c l e n all = n (e ∙ sum-zero H.rho (λ k g. differ-eq _ _ (all i k l g)))
+  pub row-strays : eqb (sum_below H.rho (strays H.list H.rho Z r i)) 0 ≡ false → FollowsAt H Z r i → ⊥
+  unfolding strays entry first_entry
+  row-strays e all =
+      eqb-false (sum_below H.rho (strays H.list H.rho Z r i)) 0 e (sum-zero H.rho (λ k g. differ-eq _ _ (all k g)))
+
+-- all rows of a block row are one statement
+pub follows-says : (H : Matrix) (Z r : ℕ) (b : Bool) → Says ((i : ℕ) → i < Z → FollowsAt H Z r i) b → Says (Follows H Z r Z) b
+unfolding Follows
+follows-says H Z r b s =
+    record { so = λ e i k l g. s.so e i l k g; not_so = λ e f. s.not_so e (λ i l k g. f i k l g) }
 
 -- ---- the parts together
 
@@ -260,3 +280,8 @@ says_so H Z a g = sym (grid-describes H Z a g)
 
 pub says-not : (H : Matrix) (Z : ℕ) → (Grid H Z → ⊥) → false ≡ describes H Z
 says-not H Z n = cases (describes H Z) (λ y. absurd (n (describes-grid H Z y))) (λ o. sym o)
+
+-- so where blocks fill the matrix its block rows tell whether it is a grid
+pub grid-says : (H : Matrix) (Z : ℕ) (b : Bool) → Accepted H → Filled H.n H.m Z → Says ((r : ℕ) → r < H.m / Z → Stands H Z r) b → b ≡ describes H Z
+grid-says H Z true a f s = says_so H Z a (grid-of H Z f (s.so refl))
+grid-says H Z false a f s = says-not H Z (λ g. s.not_so refl (grid-stands H Z g))

@@ -10,6 +10,7 @@ ghost use Rattle.sheet.specs.Paper.MatrixSheet.{describes};
 ghost use Rattle.sheet_blocks.specs.Parts.{Says, Filled, Ready, Split, Follows, Stands, Turning, strays};
 
 use matrix_check::Shape;
+use sheet::turn;
 
 // Whether z is not 0 and blocks of that size fill the columns and the rows.
 fn whole_blocks(n: u16, m: u16, z: u16) -> bool
@@ -35,26 +36,12 @@ fn split_row(
 {
     let rho = shape.rho as usize;
     let from = r * (z as usize) * rho;
-    let mut k = 0;
-    while k < rho {
+    for k in 0..rho {
         let e = list[from + k];
         let shift = e % z;
         starts[k] = e - shift;
         shifts[k] = shift;
-        k += 1;
     }
-}
-
-// How far behind the block's start the one stands i rows further down: behind the block's end it goes on at the start.
-fn turn(shift: u16, i: u16, z: u16) -> u16
-    requires { (shift < z) × (i < z) }
-    ensures { result ≡ (i + shift) % z }
-{
-    let left = z - i;
-    if shift < left {
-        return shift + i;
-    }
-    shift - left
 }
 
 // How many entries of row i of block row r are not those of its first row, turned by i. Counted without a division.
@@ -73,10 +60,8 @@ fn row_strays(
     let rho = shape.rho as usize;
     let from = (r * (z as usize) + (i as usize)) * rho;
     let mut count: u16 = 0;
-    let mut k = 0;
-    while k < rho {
+    for k in 0..rho {
         count += (list[from + k] != starts[k] + turn(shifts[k], i, z)) as u16;
-        k += 1;
     }
     count
 }
@@ -93,14 +78,7 @@ fn rows_follow(
     requires { Turning (matrix_of shape list.now) z r starts.now shifts.now }
     ensures { Says (Follows (matrix_of shape list.now) z r z) result }
 {
-    let mut i: u16 = 0;
-    while i < z {
-        if row_strays(shape, list, z, r, i, starts, shifts) != 0 {
-            return false;
-        }
-        i += 1;
-    }
-    true
+    (0..z).all(|i| row_strays(shape, list, z, r, i, starts, shifts) == 0)
 }
 
 // Whether block row r is a row of zero and shifted identity blocks. Where its rows follow, no block has two entries of a row: the rows ascend.
@@ -123,12 +101,5 @@ pub fn described(shape: Shape, list: &[u16], z: u16) -> bool
         return false;
     }
     let rows = (shape.m / z) as usize;
-    let mut r = 0;
-    while r < rows {
-        if !block_row(shape, list, z, r) {
-            return false;
-        }
-        r += 1;
-    }
-    true
+    (0..rows).all(|r| block_row(shape, list, z, r))
 }

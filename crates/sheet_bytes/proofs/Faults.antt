@@ -1,18 +1,14 @@
 -- Laws of the faults: each one searched for, and what the bytes are by all of them.
---   go_on, none_before                       == a search goes on past a place that fails, and no place before it passes
---   row_unlike                               == whether a block row has another number of set places than the first
---   unlike-first, like-row                   == the first has not, nor has one with as many
---   unlike-found, unlike-none                == block rows are unlike where one is unlike the first, and only there
+--   row_unlike, row_is_unlike                == whether a block row has another number of set places than the first, also by what was read
+--   unlike-first, unlike-is                  == the first has not, and whether some has
 --   wrong-is                                 == the length by the first one, as the code asks it
 --   first_says                               == where they are alike the first one tells whether the length is wrong
 --   spare_one                                == whether a spare place of the map is set
---   spare-start, spare-found, spare-none     == the search of the spare places starts, finds one, comes to the end
---   too_far                                  == whether a shift is not below the block size
---   shift_is, far_at, near-at                == the number that was read is the shift, and tells whether it is
+--   spare-is                                 == whether some is
+--   too_far, number_too_far                  == whether a shift is not below the block size, also by what was read
 --   long-is                                  == how long a sheet is, by the heading that was read
---   far-start, far-found, far_none           == the search of the shifts starts, finds one, comes to the end
+--   far-is                                   == whether some shift is not
 --   zero_is                                  == a zero in the heading that was read is one in the bytes
---   mapped                                   == without one the map is there where its bytes are
 --   length-right                             == where the length is not wrong it is that of a sheet
 --   short-refused, zero-refused, unlike-refused   == bytes with one fault are no sheet
 --   first-refused                            == nor are those whose length is wrong by the first block row
@@ -21,28 +17,21 @@
 use mathlib.Core.Path.{◌≡◌, refl, sym, ap, ap₂, ◌∙◌}
 use mathlib.Core.Bool.{Bool, true, false, not, ◌&&◌, ◌||◌}
 use mathlib.Core.List.{List}
-use Prim.Native.Nat.{ℕ, ◌+◌, ◌*◌, ◌-◌, ◌≤◌, ◌<◌}
+use Prim.Native.Nat.{ℕ, ◌+◌, ◌*◌, ◌-◌, ◌/◌, ◌<◌}
+use native.Mathlib.Nat.{zero-mul}
 use native.Mathlib.Omega.{arith}
-use borrow.Author.Tests.{eq-eqb, ne_eqb, eqb-true, eqb-false, le-leb, lt-leb, not-false}
+use borrow.Author.Tests.{eq-eqb, eqb-true, not-false}
 use lib.Dec.{eqb, leb}
 use lib.ListN.{length}
 use Rattle.counting.specs.Paper.Search.{any_below}
 use Rattle.counting.proofs.Sums.{sum-cong, sum-const}
-use Rattle.counting.proofs.Searches.{never, cases, or_left, or_right, or-neither, any_step, any_none, any_at, any-clear}
+use Rattle.counting.proofs.Searches.{never, cases, or_left, or_right, any-cong, any-clear}
 use Rattle.packed_word.specs.Paper.Packed.{bytes_for}
 use Rattle.byte_numbers.specs.Paper.Numbers.{number16}
 use Rattle.sheet.specs.Paper.Sheet.{block_rows, block_columns, block_size, map_bit, set_in, set_places, shift_at, sheet_length, wrong_length, zero_size, spare_map, shift_too_far, unlike_rows, no_sheet}
 use Rattle.sheet_bytes.specs.declared.Heading.{Heading}
-use Rattle.sheet_bytes.specs.Parts.{Headed, Mapped, set_from, wrong_by_first}
-use Rattle.sheet_bytes.proofs.Maps.{places-are, from_first}
-
--- a search goes on past a place that fails
-pub go_on : (t : ℕ → Bool) (k : ℕ) → any_below t k ≡ false → t k ≡ false → any_below t (k + 1) ≡ false
-go_on t k h e = any_step t k ∙ or-neither (any_below t k) (t k) h e
-
--- and no place before it passes
-pub none_before : (t : ℕ → Bool) (k n : ℕ) → n ≤ k → any_below t k ≡ false → any_below t n ≡ false
-none_before t k n l h = any_none t n (λ i b. any-clear t k h i (omega arith))
+use Rattle.sheet_bytes.specs.Parts.{Headed, set_from, wrong_by_first}
+use Rattle.sheet_bytes.proofs.Maps.{places-are, from_first, from_row}
 
 -- ---- block rows
 
@@ -50,28 +39,24 @@ none_before t k n l h = any_none t n (λ i b. any-clear t k h i (omega arith))
 abbrev pub row_unlike : List ℕ → ℕ → Bool
 row_unlike bs r = not (eqb (set_in bs r) (set_in bs 0))
 
-module _ (bs : List ℕ) where
+-- the same by the columns and the first block row's count that were read
+abbrev pub row_is_unlike : List ℕ → ℕ → ℕ → ℕ → Bool
+row_is_unlike bs k first r = not (eqb (set_from bs (r * k) k) first)
+
+module _ {bs : List ℕ} {h : Heading} (d : Headed bs h) (first : ℕ) (e : first ≡ set_from bs 0 h.columns) where
   -- the first has not
-  pub unlike-first : any_below (row_unlike bs) 1 ≡ false
-  unlike-first =
-      any_none (row_unlike bs) 1
-      (λ i l. let z : i ≡ 0 = omega arith in ap not (eq-eqb (set_in bs i) (set_in bs 0) (ap (set_in bs) z)))
+  pub unlike-first : row_is_unlike bs h.columns first 0 ≡ false
+  unlike-first = ap not (eq-eqb (set_from bs (0 * h.columns) h.columns) first (ap (λ (p : ℕ). set_from bs p h.columns) (zero-mul h.columns) ∙ sym e))
 
-  -- block rows are unlike where one is unlike the first
-  pub unlike-found : (r x y : ℕ) → r < block_rows bs → x ≡ set_in bs r → y ≡ set_in bs 0 → (x ≡ y → ⊥) → true ≡ unlike_rows bs
+  -- whether some has, by what was read
+  pub unlike-is : any_below (row_is_unlike bs h.columns first) h.rows ≡ unlike_rows bs
   unfolding unlike_rows
-  unlike-found r x y l e f ne =
-      sym (any_at (row_unlike bs) (block_rows bs) r l (ap not (ne_eqb (set_in bs r) (set_in bs 0) (λ q. ne (e ∙ q ∙ sym f)))))
+  unlike-is =
+      ap (any_below (row_is_unlike bs h.columns first)) d.rows
+      ∙ any-cong (row_is_unlike bs h.columns first) (row_unlike bs) (block_rows bs)
+      (λ r l. ap₂ (λ (x y : ℕ). not (eqb x y)) (from_row d r) (e ∙ from_first d))
 
-  -- a block row that has as many is like the first
-  pub like-row : (r x y : ℕ) → x ≡ set_in bs r → y ≡ set_in bs 0 → x ≡ y → row_unlike bs r ≡ false
-  like-row r x y e f q = ap not (eq-eqb (set_in bs r) (set_in bs 0) (sym e ∙ q ∙ f))
-
-  -- none is unlike after all were asked
-  pub unlike-none : (r : ℕ) → block_rows bs ≤ r → any_below (row_unlike bs) r ≡ false → false ≡ unlike_rows bs
-  unfolding unlike_rows
-  unlike-none r l h = sym (none_before (row_unlike bs) r (block_rows bs) l h)
-
+module _ (bs : List ℕ) where
   -- where block rows are alike all places are as many times those of the first
   places-alike : unlike_rows bs ≡ false → set_places bs ≡ block_rows bs * set_in bs 0
   unfolding unlike_rows set_places
@@ -100,24 +85,9 @@ spare_one bs n i = eqb (map_bit bs (n + i)) 1
 
 module _ {bs : List ℕ} {h : Heading} (d : Headed bs h) where
   -- all spare places, by the heading that was read
-  spare-is : spare_map bs ≡ any_below (spare_one bs (h.rows * h.columns)) (8 * bytes_for (h.rows * h.columns) - h.rows * h.columns)
+  pub spare-is : spare_map bs ≡ any_below (spare_one bs (h.rows * h.columns)) (8 * bytes_for (h.rows * h.columns) - h.rows * h.columns)
   unfolding spare_map
   spare-is = ap (λ (n : ℕ). any_below (spare_one bs n) (8 * bytes_for n - n)) (sym (places-are d))
-
-  -- a spare place that is 1 is found
-  pub spare-found : (i : ℕ) → i < 8 * bytes_for (h.rows * h.columns) - h.rows * h.columns → map_bit bs (h.rows * h.columns + i) ≡ 1 → true ≡ spare_map bs
-  spare-found i l e =
-      sym (spare-is ∙ any_at (spare_one bs (h.rows * h.columns)) _ i l (eq-eqb (map_bit bs (h.rows * h.columns + i)) 1 e))
-
-  -- none is set after all were asked
-  pub spare-none : (i : ℕ) → 8 * bytes_for (h.rows * h.columns) - h.rows * h.columns ≤ i → any_below (spare_one bs (h.rows * h.columns)) i ≡ false
-      → false ≡ spare_map bs
-  spare-none i l e = sym (spare-is ∙ none_before (spare_one bs (h.rows * h.columns)) i _ l e)
-
--- the search of the spare places starts
-pub spare-start : (bs : List ℕ) (n : ℕ) → any_below (spare_one bs n) 0 ≡ false
-unfolding any_below
-spare-start bs n = refl
 
 -- ---- shifts
 
@@ -125,40 +95,23 @@ spare-start bs n = refl
 abbrev pub too_far : List ℕ → ℕ → Bool
 too_far bs q = leb (block_size bs) (shift_at bs q)
 
+-- the same by the number at its place behind heading and map
+abbrev pub number_too_far : List ℕ → ℕ → ℕ → ℕ → Bool
+number_too_far bs z shifts q = leb z (number16 bs (shifts + 2 * q))
+
 module _ {bs : List ℕ} {h : Heading} (d : Headed bs h) where
-  -- a shift is the number that stands behind the map and the shifts before it
-  pub shift_is : (q x b : ℕ) → b ≡ bytes_for (h.rows * h.columns) → x ≡ number16 bs (6 + b + 2 * q) → x ≡ shift_at bs q
-  unfolding shift_at
-  shift_is q x b f e = e ∙ ap (λ (y : ℕ). number16 bs (6 + y + 2 * q)) (f ∙ ap bytes_for (places-are d))
-
-  -- where it is not below the size
-  pub far_at : (q x : ℕ) → x ≡ shift_at bs q → h.size ≤ x → too_far bs q ≡ true
-  far_at q x e l = le-leb (block_size bs) (shift_at bs q) (omega (arith, d.size, e))
-
-  -- where it is below
-  pub near-at : (q x : ℕ) → x ≡ shift_at bs q → x < h.size → too_far bs q ≡ false
-  near-at q x e l = lt-leb (block_size bs) (shift_at bs q) (omega (arith, d.size, e))
-
   -- how long a sheet is, by the heading that was read
   pub long-is : length bs ≡ sheet_length bs → length bs ≡ 6 + bytes_for (h.rows * h.columns) + 2 * set_places bs
   unfolding sheet_length
   long-is w = w ∙ ap (λ (n : ℕ). 6 + bytes_for n + 2 * set_places bs) (sym (places-are d))
 
-module _ (bs : List ℕ) where
-  -- the search of the shifts starts
-  pub far-start : any_below (too_far bs) 0 ≡ false
-  unfolding any_below
-  far-start = refl
-
-  -- a shift too far is found
-  pub far-found : (q : ℕ) → q < set_places bs → too_far bs q ≡ true → true ≡ shift_too_far bs
-  unfolding shift_too_far
-  far-found q l e = sym (any_at (too_far bs) (set_places bs) q l e)
-
-  -- none is after all were asked
-  pub far_none : (q : ℕ) → set_places bs ≤ q → any_below (too_far bs) q ≡ false → false ≡ shift_too_far bs
-  unfolding shift_too_far
-  far_none q l e = sym (none_before (too_far bs) q (set_places bs) l e)
+  -- whether a shift is too far, by what was read
+  pub far-is : length bs ≡ sheet_length bs → (b : ℕ) → b ≡ bytes_for (h.rows * h.columns)
+      → any_below (number_too_far bs h.size (6 + b)) ((length bs - (6 + b)) / 2) ≡ shift_too_far bs
+  unfolding shift_too_far shift_at
+  far-is w b e =
+      ap₂ (λ (z y : ℕ). any_below (number_too_far bs z (6 + y)) ((length bs - (6 + y)) / 2)) d.size (e ∙ ap bytes_for (places-are d))
+      ∙ ap (any_below _) (omega (arith, long-is w, ap bytes_for (places-are d)))
 
 -- ---- all faults
 
@@ -173,15 +126,6 @@ module _ {bs : List ℕ} {h : Heading} (d : Headed bs h) where
   pub zero_is : (eqb h.rows 0 || (eqb h.columns 0 || eqb h.size 0)) ≡ zero_size bs
   unfolding zero_size
   zero_is = rw (d.rows, d.columns, d.size)
-
-  -- where there is none the map is there if its bytes are
-  pub mapped : (b : ℕ) → zero_size bs ≡ false → b ≡ bytes_for (h.rows * h.columns) → 6 + b ≤ length bs → Mapped bs
-  unfolding zero_size
-  mapped b z e l =
-      record {
-        some = omega (arith, eqb-false (block_rows bs) 0 (or_left (eqb (block_rows bs) 0) _ z));
-        there = omega (arith, e, places-are d);
-      }
 
 module _ (bs : List ℕ) where
   -- bytes that cannot be without a fault are no sheet

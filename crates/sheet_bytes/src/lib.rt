@@ -9,7 +9,8 @@ ghost use Rattle.sheet.specs.Paper.Sheet.{map_bit, sheet_length, spare_map, shif
 ghost use Rattle.sheet_bytes.specs.Parts.{Headed, Mapped, set_from, wrong_by_first};
 
 // The numbers that a sheet starts with: block rows, block columns and block size, each of 16 bits.
-#[derive(Clone, Copy)]
+// It is handed on beside the bytes, and not in one struct with them: the functions that docs/ names take both, and keep their signatures.
+#[derive(Clone, Copy, Debug, PartialEq, Eq)]
 pub struct Heading {
     pub rows: usize,
     pub columns: usize,
@@ -52,13 +53,7 @@ pub fn set_from(bytes: &[u8], from: usize, count: usize) -> usize
     requires { (48 + (from + count) ≤ 8 * length bytes.now) × (from + count ≤ 8589934592) }
     ensures { result ≡ set_from bytes.now from count }
 {
-    let mut found = 0;
-    let mut c = 0;
-    while c < count {
-        found += map_bit(bytes, from + c);
-        c += 1;
-    }
-    found
+    (from..from + count).map(|p| map_bit(bytes, p)).sum()
 }
 
 // How many bytes the map takes. Only this repository's crates call it, with numbers of 16 bits.
@@ -93,31 +88,17 @@ fn unlike_rows(bytes: &[u8], h: Heading) -> bool
     ensures { result ≡ unlike_rows bytes.now }
 {
     let first = set_from(bytes, 0, h.columns);
-    let mut r = 1;
-    while r < h.rows {
-        if set_from(bytes, r * h.columns, h.columns) != first {
-            return true;
-        }
-        r += 1;
-    }
-    false
+    (1..h.rows).any(|r| set_from(bytes, r * h.columns, h.columns) != first)
 }
 
 // Whether a place of the map's last byte that stands for no block is set. There are at most seven such places.
+// `packed_word::spare_set` asks it of a whole word of at most 1,023 bits; a map is a part of the bytes, of up to 65,535 × 65,535 places.
 fn spare_set(bytes: &[u8], h: Heading) -> bool
     requires { Headed bytes.now h × Mapped bytes.now }
     ensures { result ≡ spare_map bytes.now }
 {
     let places = h.rows * h.columns;
-    let spare = 8 * map_bytes(h) - places;
-    let mut i = 0;
-    while i < spare {
-        if map_bit(bytes, places + i) == 1 {
-            return true;
-        }
-        i += 1;
-    }
-    false
+    (places..8 * map_bytes(h)).any(|p| map_bit(bytes, p) == 1)
 }
 
 // Whether a shift is not below the block size. What stands behind the map are the shifts, two bytes each.
@@ -127,14 +108,7 @@ fn shift_too_far(bytes: &[u8], h: Heading) -> bool
 {
     let shifts = 6 + map_bytes(h);
     let count = (bytes.len() - shifts) / 2;
-    let mut q = 0;
-    while q < count {
-        if h.size <= number_at(bytes, shifts + 2 * q) {
-            return true;
-        }
-        q += 1;
-    }
-    false
+    (0..count).any(|q| h.size <= number_at(bytes, shifts + 2 * q))
 }
 
 // Whether bytes with this heading are a sheet. The map is there before its first block row is read, the length fits before all others are,

@@ -9,40 +9,38 @@ ghost use Rattle.matrix.specs.Paper.Shapes.{matrix_of};
 ghost use Rattle.sheet.specs.Paper.MatrixSheet.{describes};
 ghost use Rattle.sheet_from_list.specs.Paper.Call.{SheetAnswered};
 
-use answers::{Checked, Refusal, Stored};
+use answers::Refusal;
 use matrix_check::Shape;
 
 // Refusal 7 for a buffer too short, then the sheet.
-fn on_described(shape: Shape, list: &[u16], z: u16, sheet: &mut [u8]) -> Stored
+fn on_described(shape: Shape, list: &[u16], z: u16, sheet: &mut [u8]) -> Result<u32, Refusal>
     requires { Accepted (matrix_of shape list.now) × (describes (matrix_of shape list.now) z ≡ true) }
     ensures { SheetAnswered (matrix_of shape list.now) z sheet.old sheet.new (stored_of result) }
 {
     let length = sheet_store::sheet_length(shape, z);
     if sheet.len() < length {
-        return Stored::Refused(Refusal::Buffer);
+        return Err(Refusal::Buffer);
     }
     sheet_store::store(shape, list, z, sheet);
     let bytes = length as u32;
-    Stored::Bytes(bytes)
+    Ok(bytes)
 }
 
 // Refusal 12 for a matrix that no sheet with that Z describes, then what follows.
-fn on_accepted(shape: Shape, list: &[u16], z: u16, sheet: &mut [u8]) -> Stored
+fn on_accepted(shape: Shape, list: &[u16], z: u16, sheet: &mut [u8]) -> Result<u32, Refusal>
     requires { Accepted (matrix_of shape list.now) }
     ensures { SheetAnswered (matrix_of shape list.now) z sheet.old sheet.new (stored_of result) }
 {
     if !sheet_blocks::described(shape, list, z) {
-        return Stored::Refused(Refusal::NoSheet);
+        return Err(Refusal::NoSheet);
     }
     on_described(shape, list, z, sheet)
 }
 
 // The sheet of a list with a given Z, at the front of a buffer, and how many bytes it has. A refused call writes nothing.
-pub fn sheet_from_list(shape: Shape, list: &[u16], z: u16, sheet: &mut [u8]) -> Stored
+pub fn sheet_from_list(shape: Shape, list: &[u16], z: u16, sheet: &mut [u8]) -> Result<u32, Refusal>
     ensures { SheetAnswered (matrix_of shape list.now) z sheet.old sheet.new (stored_of result) }
 {
-    match matrix_check::check(shape, list) {
-        Checked::Accepted => on_accepted(shape, list, z, sheet),
-        Checked::Refused(f) => Stored::Refused(f),
-    }
+    matrix_check::check(shape, list)?;
+    on_accepted(shape, list, z, sheet)
 }

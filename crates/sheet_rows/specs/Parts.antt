@@ -1,5 +1,4 @@
 -- What the parts that write a sheet's list ask and leave.
---   set_above bs r c           == the set places of block column c in the block rows before row r
 --   shift_from bs p k          == the k-th shift from the p-th on
 --   turned_at ss ts z i k      == the k-th entry of row i, by the columns ss at which the blocks start and their shifts ts
 --   put_from p w f l           == l with f 0 .. f (w - 1) written from place p on
@@ -16,10 +15,6 @@ use Rattle.sheet.specs.Paper.Sheet.{block_size, set_at, set_in, shift_at}
 use Rattle.sheet.specs.Paper.PlainSheet.{IsSheet}
 use Rattle.sheet_bytes.specs.declared.Heading.{Heading}
 use Rattle.sheet_bytes.specs.Parts.{Headed}
-
--- the set places of a block column above row r
-unfoldable pub set_above : List ℕ → ℕ → ℕ → ℕ
-set_above bs r c = sum_below r (λ i. set_at bs i c)
 
 -- the shifts from the p-th on
 unfoldable pub shift_from : List ℕ → ℕ → ℕ → ℕ

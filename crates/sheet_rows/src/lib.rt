@@ -2,7 +2,7 @@
 // Rests on `sheet_bytes`, `sheet` and `byte_numbers`. Document 02: card 5.
 #![tactic(auto)]
 
-ghost use Rattle.std.specs.Prelude.{min, ◌+◌, ◌*◌, ◌%◌, ◌≤◌, ◌<◌, ◌≡◌, length};
+ghost use Rattle.std.specs.Prelude.{◌+◌, ◌*◌, ◌%◌, ◌≤◌, ◌<◌, ◌≡◌, length};
 ghost use Rattle.counting.specs.Paper.Lists.{listed, over};
 ghost use Rattle.counting.specs.Paper.Sum.{least};
 ghost use Rattle.sheet.specs.Paper.Sheet.{block_rows, block_columns, set_down};
@@ -12,19 +12,8 @@ ghost use Rattle.sheet.specs.Parts.{entry_of};
 ghost use Rattle.sheet_bytes.specs.Parts.{Headed};
 ghost use Rattle.sheet_rows.specs.Parts.{shift_from, turned_at, put_from, put_rows, SheetLent, Starts, Blocks};
 
-use byte_numbers::number16;
+use sheet::turn;
 use sheet_bytes::{Heading, map_bit, map_bytes};
-
-// x modulo z, for x below twice z.
-fn wrapped(x: u16, z: u16) -> u16
-    requires { x < z + z }
-    ensures { result ≡ x % z }
-{
-    if x < z {
-        return x;
-    }
-    x - z
-}
 
 // Writes a row at place p: row i of the shifted blocks that start at these columns. This is the loop that takes the time, so it has no division.
 fn put_row(
@@ -39,10 +28,8 @@ fn put_row(
     requires { Blocks starts.now shifts.now rho z × (i < z) × (p + rho ≤ length list.old) }
     ensures { list.new ≡ put_from p rho (turned_at starts.now shifts.now z i) list.old }
 {
-    let mut k = 0;
-    while k < rho {
-        list[p + k] = starts[k] + wrapped(i + shifts[k], z);
-        k += 1;
+    for k in 0..rho {
+        list[p + k] = starts[k] + turn(shifts[k], i, z);
     }
 }
 
@@ -51,26 +38,21 @@ fn put_block(starts: &[u16; 33], shifts: &[u16; 33], rho: usize, z: u16, p: usiz
     requires { Blocks starts.now shifts.now rho z × (p + z * rho ≤ length list.old) }
     ensures { list.new ≡ put_rows p rho (turned_at starts.now shifts.now z) z list.old }
 {
-    let mut i: u16 = 0;
-    let mut next = p;
-    while i < z {
-        put_row(starts, shifts, rho, z, i, next, list);
-        next += rho;
-        i += 1;
+    for i in 0..z {
+        put_row(starts, shifts, rho, z, i, p + i as usize * rho, list);
     }
 }
 
-// The columns at which the set blocks of block row r start. Each block writes its own at the next place, and only a set one keeps it.
+// The columns at which the set blocks of block row r start. Each block writes its own at the next place, and only a set one keeps it:
+// k counts the set blocks, not the turns.
 fn read_starts(bytes: &[u8], h: Heading, rho: usize, r: usize, starts: &mut [u16])
     requires { SheetLent bytes.now h rho × (r < h.rows) × (length starts.old ≡ 33) }
     ensures { Starts bytes.now r (block_columns bytes.now) starts.new }
 {
     let mut k = 0;
-    let mut c = 0;
-    while c < h.columns {
+    for c in 0..h.columns {
         starts[k] = (c * h.size) as u16;
         k += map_bit(bytes, r * h.columns + c);
-        c += 1;
     }
 }
 
@@ -80,11 +62,7 @@ fn read_shifts(bytes: &[u8], h: Heading, rho: usize, r: usize, shifts: &mut [u16
     ensures { shifts.new ≡ over (listed rho (shift_from bytes.now (r * rho))) shifts.old }
 {
     let first = 6 + map_bytes(h) + 2 * (r * rho);
-    let mut k = 0;
-    while k < rho {
-        shifts[k] = number16(bytes, first + 2 * k);
-        k += 1;
-    }
+    byte_numbers::entries(&bytes[first..first + 2 * rho], shifts);
 }
 
 // Writes the rows of block row r where they stand in the list.
@@ -112,21 +90,9 @@ pub fn put_list(bytes: &[u8], h: Heading, rho: usize, list: &mut [u16])
     requires { SheetLent bytes.now h rho × (h.rows * h.size * rho ≤ length list.old) }
     ensures { list.new ≡ over (matrix_of_sheet bytes.now).list list.old }
 {
-    let mut r = 0;
-    while r < h.rows {
+    for r in 0..h.rows {
         put_block_row(bytes, h, rho, r, list);
-        r += 1;
     }
-}
-
-// The smaller of two numbers.
-fn smaller(a: usize, b: usize) -> usize
-    ensures { result ≡ min a b }
-{
-    if a < b {
-        return a;
-    }
-    b
 }
 
 // The set places of block column c.
@@ -134,13 +100,7 @@ fn set_down(bytes: &[u8], h: Heading, c: usize) -> usize
     requires { IsSheet bytes.now × Headed bytes.now h × (c < h.columns) }
     ensures { (result ≡ set_down bytes.now c) × (result ≤ h.rows) }
 {
-    let mut count = 0;
-    let mut r = 0;
-    while r < h.rows {
-        count += map_bit(bytes, r * h.columns + c);
-        r += 1;
-    }
-    count
+    (0..h.rows).map(|r| map_bit(bytes, r * h.columns + c)).sum()
 }
 
 // The fewest set places of a block column. Only this repository's crates call it, on a sheet.
@@ -149,10 +109,8 @@ pub fn fewest(bytes: &[u8], h: Heading) -> usize
     ensures { result ≡ least (block_rows bytes.now) (block_columns bytes.now) (set_down bytes.now) }
 {
     let mut low = h.rows;
-    let mut c = 0;
-    while c < h.columns {
-        low = smaller(low, set_down(bytes, h, c));
-        c += 1;
+    for c in 0..h.columns {
+        low = low.min(set_down(bytes, h, c));
     }
     low
 }

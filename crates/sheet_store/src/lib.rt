@@ -2,7 +2,7 @@
 // Rests on `sheet`, `matrix_check`, `matrix`, `packed_word` and `byte_numbers`. Document 02: card 5.
 #![tactic(auto)]
 
-ghost use Rattle.std.specs.Prelude.{ℕ, ◌+◌, ◌*◌, ◌/◌, ◌≤◌, ◌<◌, ◌≡◌, true, List, length, replicate};
+ghost use Rattle.std.specs.Prelude.{ℕ, ◌+◌, ◌*◌, ◌/◌, ◌≤◌, ◌<◌, ◌≡◌, true, List, length};
 ghost use Rattle.std.proofs.lemmas.List.Edits.{sets};
 ghost use Rattle.counting.specs.Paper.Joined.{joined};
 ghost use Rattle.counting.specs.Paper.Lists.{over};
@@ -25,17 +25,6 @@ fn put_heading(rows: u16, columns: u16, size: u16, sheet: &mut [u8])
     byte_numbers::put16(size, 4, sheet);
 }
 
-// Sets all bytes to 0.
-fn clear(bytes: &mut [u8])
-    ensures { bytes.new ≡ replicate (length bytes.old) 0 }
-{
-    let mut q = 0;
-    while q < bytes.len() {
-        bytes[q] = 0;
-        q += 1;
-    }
-}
-
 // Sets the places of the blocks of block row r: its first row has its ones there.
 fn mark_row(shape: Shape, list: &[u16], z: usize, r: usize, map: &mut [u8])
     requires { Accepted (matrix_of shape list.now) × Grid (matrix_of shape list.now) z × (r < shape.m / z) × Marked (matrix_of shape list.now) z r 0 map.old }
@@ -43,11 +32,9 @@ fn mark_row(shape: Shape, list: &[u16], z: usize, r: usize, map: &mut [u8])
 {
     let rho = shape.rho as usize;
     let columns = shape.n as usize / z;
-    let mut k = 0;
-    while k < rho {
+    for k in 0..rho {
         let e = matrix::column(shape, list, r * z, k);
         packed_word::set_bit(map, r * columns + e / z);
-        k += 1;
     }
 }
 
@@ -57,11 +44,9 @@ fn put_map(shape: Shape, list: &[u16], z: usize, map: &mut [u8])
     ensures { map.new ≡ pack (shape.m / z * (shape.n / z)) (in_block (matrix_of shape list.now) z) }
 {
     let rows = shape.m as usize / z;
-    clear(map);
-    let mut r = 0;
-    while r < rows {
+    map.fill(0);
+    for r in 0..rows {
         mark_row(shape, list, z, r, map);
-        r += 1;
     }
 }
 
@@ -71,11 +56,9 @@ fn put_row_shifts(shape: Shape, list: &[u16], z: usize, r: usize, p: usize, shee
     ensures { sheet.new ≡ sets sheet.old p (row_shifts (matrix_of shape list.now) z r) }
 {
     let rho = shape.rho as usize;
-    let mut k = 0;
-    while k < rho {
+    for k in 0..rho {
         let e = matrix::column(shape, list, r * z, k);
         byte_numbers::put16((e % z) as u16, p + 2 * k, sheet);
-        k += 1;
     }
 }
 
@@ -86,10 +69,8 @@ fn put_shifts(shape: Shape, list: &[u16], z: usize, from: usize, sheet: &mut [u8
 {
     let rho = shape.rho as usize;
     let rows = shape.m as usize / z;
-    let mut r = 0;
-    while r < rows {
+    for r in 0..rows {
         put_row_shifts(shape, list, z, r, from + 2 * (r * rho), sheet);
-        r += 1;
     }
 }
 

@@ -9,14 +9,12 @@
 -- Assumes nothing.
 use mathlib.Core.Path.{◌≡◌, refl, sym, ap, subst, ◌∙◌}
 use mathlib.Core.Bool.{true, false}
-use mathlib.Core.List.{List, []}
+use mathlib.Core.List.{List, [], ◌++◌}
 use Prim.Native.Nat.{ℕ, ◌*◌, ◌≤◌, ◌<◌}
 use native.Mathlib.Omega.{arith}
 use borrow.Author.Tests.{lt-ltb, le-ltb}
-use lib.ListN.{length}
-use Rattle.counting.specs.Paper.Lists.{listed, over}
-use Rattle.counting.specs.Places.{at}
-use Rattle.counting.proofs.Writes.{listed-get_or}
+use lib.ListN.{length, drop}
+use Rattle.counting.specs.Paper.Lists.{over}
 use Rattle.answers.specs.Paper.Answers.{Verdict, accepted, refused}
 use Rattle.matrix.specs.Paper.Code.{Matrix}
 use Rattle.matrix.specs.Paper.Check.{check_of}
@@ -67,12 +65,12 @@ module _ (H : Matrix) (ss ls : List ℕ) where
     put_both ss' ls' g l p q =
         record { says = sym (long-enough g l); sizes = p ∙ rw (long-enough g l) refl; list = q ∙ rw (long-enough g l) refl }
 
--- the same as the code writes them: the sizes need no list, and the list is copied
-pub both-written : (s : Shape) (made ss ss' ls ls' : List ℕ) → Accepted (matrix_of s made) → 4 ≤ length ss → length made ≤ length ls
-    → ss' ≡ over (sizes_of (matrix_of s [])) ss → ls' ≡ over (listed (length made) (at made)) ls → MatrixAnswered (matrix_of s made) ss ss' ls ls' accepted
-unfolding sizes_of
-both-written s made ss ss' ls ls' a g l p q =
-    put_both (matrix_of s made) ss ls a ss' ls' g l p (q ∙ ap (λ (x : List ℕ). over x ls) (listed-get_or made 0))
+-- the same as the code writes them: the sizes need no list, and the list is copied over the front
+pub both-written : (s : Shape) (made copy ss ss' ls : List ℕ) → Accepted (matrix_of s made) → 4 ≤ length ss → length made ≤ length ls
+    → ss' ≡ over (sizes_of (matrix_of s [])) ss → copy ≡ made → MatrixAnswered (matrix_of s made) ss ss' ls (copy ++ drop (length made) ls) accepted
+unfolding sizes_of over
+both-written s made copy ss ss' ls a g l p q =
+    put_both (matrix_of s made) ss ls a ss' (copy ++ drop (length made) ls) g l p (ap (λ (x : List ℕ). x ++ drop (length made) ls) q)
 
 -- a sheet is asked no more of than its sizes and list
 asked-next : (bs : List ℕ) (a b : ℕ) → no_sheet bs ≡ false → list_verdict (matrix_of_sheet bs) a b ≡ to_list_verdict bs a b

@@ -1,5 +1,5 @@
 // A sheet turned into a list: sizes and list are made, checked as any others, and only then written.
-// Rests on `sheet_rows`, `sheet_bytes`, `matrix_index`, `matrix_check` and `answers`. Document 02: card 5; refusals 11, 1 to 5 and 7.
+// Rests on `sheet_rows`, `sheet_bytes`, `matrix_check` and `answers`. Document 02: card 5; refusals 11, 1 to 5 and 7.
 #![tactic(auto)]
 
 ghost use Rattle.std.specs.Prelude.{◌≤◌, ◌≡◌, [], length};
@@ -13,7 +13,7 @@ ghost use Rattle.sheet.specs.Paper.Calls.{sizes_of};
 ghost use Rattle.sheet_to_list.specs.Paper.Call.{SheetAnswered};
 ghost use Rattle.sheet_to_list.specs.Parts.{MatrixAnswered, Small, Made};
 
-use answers::{Checked, Refusal};
+use answers::Refusal;
 use matrix_check::Shape;
 use sheet_bytes::Heading;
 
@@ -22,41 +22,47 @@ fn put_sizes(shape: Shape, sizes: &mut [u16])
     requires { 4 ≤ length sizes.old }
     ensures { sizes.new ≡ over (sizes_of (matrix_of shape [])) sizes.old }
 {
-    sizes[0] = shape.n;
-    sizes[1] = shape.m;
-    sizes[2] = shape.rho;
-    sizes[3] = shape.gamma;
+    sizes[..4].copy_from_slice(&[shape.n, shape.m, shape.rho, shape.gamma]);
 }
 
 // Refusal 7 for one of the two buffers, then sizes and list are written.
-fn on_accepted(shape: Shape, made: &[u16], sizes: &mut [u16], list: &mut [u16]) -> Checked
+fn on_accepted(
+    shape: Shape,
+    made: &[u16],
+    sizes: &mut [u16],
+    list: &mut [u16],
+) -> Result<(), Refusal>
     requires { Accepted (matrix_of shape made.now) }
     ensures { MatrixAnswered (matrix_of shape made.now) sizes.old sizes.new list.old list.new (verdict_of result) }
 {
     let count = made.len();
     if sizes.len() < 4 {
-        return Checked::Refused(Refusal::Buffer);
+        return Err(Refusal::Buffer);
     }
     if list.len() < count {
-        return Checked::Refused(Refusal::Buffer);
+        return Err(Refusal::Buffer);
     }
     put_sizes(shape, sizes);
-    matrix_index::copy_front(count, made, list);
-    Checked::Accepted
+    list[..count].copy_from_slice(made);
+    Ok(())
 }
 
 // The matrix check, then the rest.
-fn on_list(shape: Shape, made: &[u16], sizes: &mut [u16], list: &mut [u16]) -> Checked
+fn on_list(shape: Shape, made: &[u16], sizes: &mut [u16], list: &mut [u16]) -> Result<(), Refusal>
     ensures { MatrixAnswered (matrix_of shape made.now) sizes.old sizes.new list.old list.new (verdict_of result) }
 {
-    match matrix_check::check(shape, made) {
-        Checked::Accepted => on_accepted(shape, made, sizes, list),
-        Checked::Refused(f) => Checked::Refused(f),
-    }
+    matrix_check::check(shape, made)?;
+    on_accepted(shape, made, sizes, list)
 }
 
 // The list is made beside the caller's memory, which keeps its own until the check is passed.
-fn on_sizes(sheet: &[u8], h: Heading, shape: Shape, sizes: &mut [u16], list: &mut [u16]) -> Checked
+fn on_sizes(
+    sheet: &[u8],
+    h: Heading,
+    shape: Shape,
+    sizes: &mut [u16],
+    list: &mut [u16],
+) -> Result<(), Refusal>
     requires { Made sheet.now h shape }
     ensures { MatrixAnswered (matrix_of_sheet sheet.now) sizes.old sizes.new list.old list.new (verdict_of result) }
 {
@@ -85,38 +91,38 @@ fn shape_of(sheet: &[u8], h: Heading) -> Shape
 }
 
 // Refusal 1 before the list is made: only then is there room for it.
-fn on_small(sheet: &[u8], h: Heading, sizes: &mut [u16], list: &mut [u16]) -> Checked
+fn on_small(sheet: &[u8], h: Heading, sizes: &mut [u16], list: &mut [u16]) -> Result<(), Refusal>
     requires { Small sheet.now h }
     ensures { MatrixAnswered (matrix_of_sheet sheet.now) sizes.old sizes.new list.old list.new (verdict_of result) }
 {
     let shape = shape_of(sheet, h);
     if !matrix_check::sizes_fit(shape) {
-        return Checked::Refused(Refusal::Sizes);
+        return Err(Refusal::Sizes);
     }
     on_sizes(sheet, h, shape, sizes, list)
 }
 
 // Refusal 1 for n or m out of range, before both become numbers of 16 bits.
-fn on_sheet(sheet: &[u8], sizes: &mut [u16], list: &mut [u16]) -> Checked
+fn on_sheet(sheet: &[u8], sizes: &mut [u16], list: &mut [u16]) -> Result<(), Refusal>
     requires { IsSheet sheet.now }
     ensures { MatrixAnswered (matrix_of_sheet sheet.now) sizes.old sizes.new list.old list.new (verdict_of result) }
 {
     let h = sheet_bytes::heading_of(sheet);
     if h.columns * h.size > 1023 {
-        return Checked::Refused(Refusal::Sizes);
+        return Err(Refusal::Sizes);
     }
     if h.rows * h.size > 1023 {
-        return Checked::Refused(Refusal::Sizes);
+        return Err(Refusal::Sizes);
     }
     on_small(sheet, h, sizes, list)
 }
 
 // A sheet turned into sizes and list, at the front of two buffers. A refused call writes nothing.
-pub fn sheet_to_list(sheet: &[u8], sizes: &mut [u16], list: &mut [u16]) -> Checked
+pub fn sheet_to_list(sheet: &[u8], sizes: &mut [u16], list: &mut [u16]) -> Result<(), Refusal>
     ensures { SheetAnswered sheet.now sizes.old sizes.new list.old list.new (verdict_of result) }
 {
     if !sheet_bytes::is_sheet(sheet) {
-        return Checked::Refused(Refusal::Sheet);
+        return Err(Refusal::Sheet);
     }
     on_sheet(sheet, sizes, list)
 }

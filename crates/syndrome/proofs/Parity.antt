@@ -1,5 +1,6 @@
 -- Laws of row parities: a row of an accepted matrix is a part of the list, and the parity of the bits there is its check.
 --   xor-bits      == of bits, `^` is the sum's parity
+--   part-at       == a number of a part, read from the part as a slice
 --   parity-step   == one bit more in a parity
 --   row-part      == a row is a part of the list
 --   checks        == a word has bits at every row
@@ -18,6 +19,8 @@ use native.Mathlib.Nat.{mul-le-mul_right, le_of_suc-le-suc}
 use native.Mathlib.Numerals.{add-one}
 use native.Mathlib.Omega.{arith}
 use lib.Bits.{bit_xor}
+use lib.ListN.{get_or, take, drop}
+use lib.Seq.{get_or-take, get_or-drop}
 use Rattle.counting.specs.Paper.Sum.{sum_below}
 use Rattle.counting.specs.Paper.Lists.{listed, over}
 use Rattle.counting.specs.Places.{at}
@@ -37,6 +40,10 @@ xor-bits (suc zero) zero h k = refl
 xor-bits (suc zero) (suc zero) h k = refl
 xor-bits (suc zero) (suc (suc b)) h k = absurd (omega arith)
 xor-bits (suc (suc x)) b h k = absurd (omega arith)
+
+-- a number of a part, read from the part as a slice
+pub part-at : (l : List ℕ) (from n k : ℕ) → k < n → get_or (take n (drop from l)) k 0 ≡ at l (from + k)
+part-at l from n k h = get_or-take n (drop from l) k 0 h ∙ get_or-drop from l k 0
 
 -- one bit more in a parity
 pub parity-step : (l : List ℕ) (from k : ℕ) (z : ℕ → ℕ) (x : ℕ) → z (at l (from + k)) < 2 → x ≡ ones_at l from k z % 2

@@ -12,7 +12,7 @@ ghost use Rattle.matrix.specs.Paper.Shapes.{matrix_of};
 ghost use Rattle.syndrome.specs.Paper.Failing.{word_verdict};
 ghost use Rattle.syndrome.specs.Places.{Part, BitsAt, ones_at, Checks, row_fails, PlacesListed};
 
-use answers::{Checked, Refusal};
+use answers::Refusal;
 use matrix_check::Shape;
 
 // The parity of the bits at `count` column numbers of the list: a row's check fails where it is 1.
@@ -21,12 +21,10 @@ pub fn row_parity(list: &[u16], from: usize, count: usize, bits: &[u8; 1023]) ->
     requires { Part list.now from count × BitsAt list.now from count (at bits.now) }
     ensures { result ≡ ones_at list.now from count (at bits.now) % 2 }
 {
+    let row = &list[from..from + count];
     let mut x: u8 = 0;
-    let mut k = 0;
-    while k < count {
-        let j = list[from + k] as usize;
-        x = x ^ bits[j];
-        k += 1;
+    for j in row {
+        x ^= bits[*j as usize];
     }
     x
 }
@@ -36,10 +34,8 @@ fn parities(list: &[u16], m: usize, rho: usize, bits: &[u8; 1023], parity: &mut 
     requires { Checks list.now m rho (at bits.now) × (length parity.old ≡ 1023) }
     ensures { parity.new ≡ over (listed m (row_fails list.now rho (at bits.now))) parity.old }
 {
-    let mut i = 0;
-    while i < m {
+    for i in 0..m {
         parity[i] = row_parity(list, i * rho, rho, bits);
-        i += 1;
     }
 }
 
@@ -49,23 +45,13 @@ pub fn row_parities(list: &[u16], m: usize, rho: usize, bits: &[u8; 1023], parit
     requires { Checks list.now m rho (at bits.now) × (length parity.old ≡ 1023) }
     ensures { parity.new ≡ over (listed m (row_fails list.now rho (at bits.now))) parity.old }
 {
-    if rho == 3 {
-        parities(list, m, 3, bits, parity);
-        return;
+    match rho {
+        3 => parities(list, m, 3, bits, parity),
+        4 => parities(list, m, 4, bits, parity),
+        5 => parities(list, m, 5, bits, parity),
+        6 => parities(list, m, 6, bits, parity),
+        _ => parities(list, m, rho, bits, parity),
     }
-    if rho == 4 {
-        parities(list, m, 4, bits, parity);
-        return;
-    }
-    if rho == 5 {
-        parities(list, m, 5, bits, parity);
-        return;
-    }
-    if rho == 6 {
-        parities(list, m, 6, bits, parity);
-        return;
-    }
-    parities(list, m, rho, bits, parity);
 }
 
 // Lists the rows whose parity is 1 at the front of `rows`, in their order, and says how many they are.
@@ -76,11 +62,9 @@ pub fn list_odd(m: usize, parity: &[u8; 1023], rows: &mut [u16]) -> usize
     ensures { PlacesListed (at parity.now) m rows.old rows.new result }
 {
     let mut t = 0;
-    let mut i = 0;
-    while i < m {
+    for i in 0..m {
         rows[t] = i as u16;
         t += parity[i] as usize;
-        i += 1;
     }
     t
 }
@@ -106,23 +90,21 @@ pub fn failing_count(shape: Shape, list: &[u16], bits: &[u8; 1023]) -> u16
     let m = shape.m as usize;
     let rho = shape.rho as usize;
     let mut count: u16 = 0;
-    let mut i = 0;
-    while i < m {
+    for i in 0..m {
         count += row_parity(list, i * rho, rho, bits) as u16;
-        i += 1;
     }
     count
 }
 
 // What is asked of a received word and the written buffers: 7, 9. A buffer that the call does not write is given as just long enough.
 // Only this repository's crates call it, after the matrix is accepted.
-pub fn ask_word(n: usize, received: &[u8], bytes: usize, room: usize) -> Checked
+pub fn ask_word(n: usize, received: &[u8], bytes: usize, room: usize) -> Result<(), Refusal>
     requires { n ≤ 1023 }
     ensures { verdict_of result ≡ word_verdict n received.now bytes room }
 {
     let need = (n + 7) / 8;
     if answers::wrong_lengths(received.len(), need, bytes, need, room, n) {
-        return Checked::Refused(Refusal::Buffer);
+        return Err(Refusal::Buffer);
     }
     answers::refused_when(packed_word::spare_set(received, n), Refusal::Spare)
 }

@@ -14,10 +14,11 @@ fn list_word(x: u64, first: u16, rows: &mut [u16], t: usize) -> usize
 {
     let mut y = x;
     let mut t = t;
+    // Goes on while a one is left, and takes the lowest away: no index is counted.
     while y != 0 {
-        rows[t] = first + u64::trailing_zeros(y) as u16;
+        rows[t] = first + y.trailing_zeros() as u16;
         t += 1;
-        y = y & (y - 1);
+        y &= y - 1;
     }
     t
 }
@@ -28,13 +29,10 @@ pub fn list_only(m: usize, a: &[u64; 16], b: &[u64; 16], rows: &mut [u16]) -> us
     requires { (m ≤ 1023) × Within m a.now × (length rows.old ≡ 1023) }
     ensures { Places (only_in a.now b.now) m rows.new result }
 {
-    let words = (m + 63) / 64;
     let mut t = 0;
-    let mut w = 0;
-    while w < words {
+    for w in 0..m.div_ceil(64) {
         let x = a[w];
         t = list_word(x & (x ^ b[w]), 64 * (w as u16), rows, t);
-        w += 1;
     }
     t
 }

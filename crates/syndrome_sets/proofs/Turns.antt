@@ -47,10 +47,10 @@ unfolding word_after
 listed-none x l words p h = over-own words p h
 
 -- one column more
-pub listed-step : (x l : List ℕ) (words q : ℕ) (p₀ p p' : List ℕ) → p ≡ over (listed words (word_after x l q p₀)) p₀
+next-column : (x l : List ℕ) (words q : ℕ) (p₀ p p' : List ℕ) → p ≡ over (listed words (word_after x l q p₀)) p₀
     → p' ≡ over (listed words (λ w. bit_xor (at p w) (at x (16 * at l q + w)))) p → p' ≡ over (listed words (word_after x l (q + 1) p₀)) p₀
 unfolding word_after
-listed-step x l words q p₀ p p' e e' =
+next-column x l words q p₀ p p' e e' =
     e'
     ∙ ap (λ (y : List ℕ). over y p) (listed-cong words (λ w. bit_xor (at p w) (at x (16 * at l q + w))) (word_after x l (q + 1) p₀) turned)
     ∙ ap (λ (y : List ℕ). over (listed words (word_after x l (q + 1) p₀)) y) e
@@ -61,6 +61,11 @@ listed-step x l words q p₀ p p' e e' =
 
     long : length (listed words (word_after x l (q + 1) p₀)) ≡ length (listed words (word_after x l q p₀))
     long = length-listed words (word_after x l (q + 1) p₀) ∙ sym (length-listed words (word_after x l q p₀))
+
+-- the same by the column's number as it is read
+pub listed-step : (x l : List ℕ) (words q : ℕ) (p₀ p p' : List ℕ) (j : ℕ) → j ≡ at l q → p ≡ over (listed words (word_after x l q p₀)) p₀
+    → p' ≡ over (listed words (λ w. bit_xor (at p w) (at x (16 * j + w)))) p → p' ≡ over (listed words (word_after x l (q + 1) p₀)) p₀
+listed-step x l words q p₀ p p' j here e e' = next-column x l words q p₀ p p' e (rw here at e')
 
 -- ---- as many words as the checks need
 

@@ -12,39 +12,33 @@ ghost use Rattle.syndrome_sets.specs.Turns.{word_after, words_for, ColumnAt};
 ghost use Rattle.syndrome_sets.specs.Counts.{word_apart, sets_apart};
 
 // Turns over the words of a set by those that stand in `columns` from a place on.
-fn turn_column(columns: &[u64], from: usize, words: usize, parity: &mut [u64; 16])
-    requires { (words ≤ 16) × (from ≤ 17391) × (from + words ≤ length columns.now) × (length parity.old ≡ 16) }
-    ensures { parity.new ≡ over (listed words (λ w. bit_xor (at parity.old w) (at columns.now (from + w)))) parity.old }
+fn turn_column<const WORDS: usize>(columns: &[u64], from: usize, parity: &mut [u64; 16])
+    requires { (WORDS ≤ 16) × (from ≤ 17391) × (from + WORDS ≤ length columns.now) × (length parity.old ≡ 16) }
+    ensures { parity.new ≡ over (listed WORDS (λ w. bit_xor (at parity.old w) (at columns.now (from + w)))) parity.old }
 {
-    let mut w = 0;
-    while w < words {
-        parity[w] = parity[w] ^ columns[from + w];
-        w += 1;
+    for w in 0..WORDS {
+        parity[w] ^= columns[from + w];
     }
 }
 
 // The same for each listed column, on a copy, which the compiled loop keeps in registers.
-fn turn_listed(
+fn turn_listed<const WORDS: usize>(
     columns: &[u64],
-    words: usize,
     places: &[u16; 1023],
     count: usize,
     parity: &mut [u64; 16],
 )
-    requires { (words ≤ 16) × (count ≤ 1023) × ((q : ℕ) → q < count → ColumnAt columns.now (at places.now q)) × (length parity.old ≡ 16) }
-    ensures { parity.new ≡ over (listed words (word_after columns.now places.now count parity.old)) parity.old }
+    requires { (WORDS ≤ 16) × (count ≤ 1023) × ((q : ℕ) → q < count → ColumnAt columns.now (at places.now q)) × (length parity.old ≡ 16) }
+    ensures { parity.new ≡ over (listed WORDS (word_after columns.now places.now count parity.old)) parity.old }
 {
     let mut p = *parity;
-    let mut q = 0;
-    while q < count {
-        let j = places[q] as usize;
-        turn_column(columns, 16 * j, words, &mut p);
-        q += 1;
+    for j in &places[..count] {
+        turn_column::<WORDS>(columns, 16 * *j as usize, &mut p);
     }
     *parity = p;
 }
 
-// The same with as many words as m checks need, two or sixteen, so that each loop is laid out by itself.
+// The same with as many words as m checks need, two or sixteen, each in a loop laid out for that many.
 // Only this repository's crates call it, with the columns of an accepted matrix.
 pub fn turn(
     columns: &[u64],
@@ -58,17 +52,17 @@ pub fn turn(
     ensures { parity.new ≡ over (listed (words_for m) (word_after columns.now places.now count parity.old)) parity.old }
 {
     if m <= 128 {
-        turn_listed(columns, 2, places, count, parity);
-        return;
+        turn_listed::<2>(columns, places, count, parity)
+    } else {
+        turn_listed::<16>(columns, places, count, parity)
     }
-    turn_listed(columns, 16, places, count, parity);
 }
 
 // In how many bits two words differ.
 fn word_apart(x: u64, y: u64) -> u16
     ensures { (result ≡ ones (bit_xor x y)) × (result ≡ word_apart x y) }
 {
-    u64::count_ones(x ^ y) as u16
+    (x ^ y).count_ones() as u16
 }
 
 // How many bits of their first words two sets differ in. Only this repository's crates call it, with sets of checks.
@@ -77,10 +71,8 @@ pub fn apart(words: usize, a: &[u64; 16], b: &[u64; 16]) -> u16
     ensures { (result ≡ sum_below words (λ w. ones (bit_xor (at a.now w) (at b.now w)))) × (result ≡ sets_apart words a.now b.now) }
 {
     let mut t: u16 = 0;
-    let mut w = 0;
-    while w < words {
+    for w in 0..words {
         t += word_apart(a[w], b[w]);
-        w += 1;
     }
     t
 }

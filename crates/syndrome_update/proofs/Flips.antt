@@ -1,63 +1,47 @@
 -- The places at which two words differ: one more looked at, eight passed over at once.
---   number-none    == of no bytes the number is 0
---   number_more    == one byte more at the low end
---   number-room    == fewer than eight bits, a byte each, leave room for one more in 64 bits
---   number_same    == words of which these numbers are equal agree at these places
+--   chunks-same    == words of which eight bytes are the same array agree at these places
 --   flips-none     == no place is looked at yet
 --   flips-start    == nor is one behind places that stand there
 --   flips-step     == one place more is looked at
 --   flips-skip     == places at which the words agree are passed over
 --   flips-join     == places listed in two parts
 -- Assumes nothing.
-use mathlib.Core.Path.{◌≡◌, refl, ◌∙◌}
+use Rattle.std.specs.Array.{IsFirstChunk}
+use Rattle.std.specs.Prelude.{Option, None, Some, MatchOption}
+use Rattle.std.specs.Option.{option_eq}
+use Rattle.std.specs.Cmp.Lexicographic.{pointwise}
+use Rattle.std.proofs.lemmas.Slice.Eq.{slice_eq-Decides}
+use Rattle.std.proofs.lemmas.Bool.Decides.{Decides-eqb}
+use mathlib.Core.Path.{◌≡◌, refl, sym, ap, ◌∙◌}
+use mathlib.Core.Bool.{true}
 use mathlib.Core.List.{List}
-use Prim.Native.Nat.{ℕ, zero, suc, ◌+◌, ◌*◌, ◌^◌, ◌≤◌, ◌<◌}
-use native.Mathlib.Nat.{add-zero}
+use denote.Ref.{Bor}
+use Prim.Native.Nat.{ℕ, ◌+◌, ◌≤◌, ◌<◌}
 use native.Mathlib.Omega.{arith}
-use lib.Pow.{pow-add, pow_mono}
-use lib.ListN.{length, set}
-use lib.Seq.{get_or-set_other}
+use lib.Dec.{eqb}
+use lib.ListN.{length, set, get_or, take, drop}
+use lib.Seq.{get_or-set_other, get_or-take}
 use Rattle.counting.specs.Places.{at}
 use Rattle.counting.proofs.Sums.{sum-part, differ-eq}
 use Rattle.syndrome.specs.Places.{Places}
+use Rattle.syndrome.proofs.Parity.{part-at}
 use Rattle.syndrome.proofs.Lists.{places-none, places-step, places-skip}
-use Rattle.syndrome_update.specs.Parities.{differing, number_from, FlipsListed}
+use Rattle.syndrome_update.specs.Parities.{differing, FlipsListed}
 
--- ---- numbers made of bits, a byte each
-
--- the number of none
-pub number-none : (z : List ℕ) (p : ℕ) → 0 ≡ number_from z p 0
-unfolding number_from
-number-none z p = refl
-
--- one byte more at the low end
-pub number_more : (z : List ℕ) (p k x r : ℕ) → x ≡ number_from z (p + 1) k → r ≡ at z p → x * 256 + r ≡ number_from z p (suc k)
-unfolding number_from
-number_more z p k x r e h = omega (arith, e, h)
-
--- the number of k bits has k bytes
-number_small : (z : List ℕ) (p k : ℕ) → ((i : ℕ) → i < p + k → at z i < 2) → number_from z p k < 2 ^ (8 * k)
-unfolding number_from
-number_small z p zero h = omega arith
-number_small z p (suc k) h =
-    let e : 8 * suc k ≡ 8 * k + 8 = omega arith in
-    rw (e, pow-add 2 (8 * k) 8) (omega (arith, number_small z (p + 1) k (λ i l. h i (omega arith)), h p (omega arith)))
-
--- fewer than eight leave room for one more in 64 bits
-pub number-room : (z : List ℕ) (p k : ℕ) → ((i : ℕ) → i < p + k → at z i < 2) → k < 8 → number_from z p k < 2 ^ 56
-number-room z p k h l = omega (arith, number_small z p k h, pow_mono {i = 8 * k} {j = 56} (omega arith))
-
--- words of which these numbers are equal agree at these places
-pub number_same : (a b : List ℕ) (p k : ℕ) → ((i : ℕ) → i < p + k → at a i < 2) → ((i : ℕ) → i < p + k → at b i < 2)
-    → number_from a p k ≡ number_from b p k → (d : ℕ) → d < k → at a (p + d) ≡ at b (p + d)
-unfolding number_from
-number_same a b p zero ha hb e d h = absurd (omega arith)
-number_same a b p (suc k) ha hb e zero h =
-    rw (add-zero p) (omega (arith, e, ha p (omega arith), hb p (omega arith)))
-number_same a b p (suc k) ha hb e (suc d) h =
-    let rest : number_from a (p + 1) k ≡ number_from b (p + 1) k = omega (arith, e, ha p (omega arith), hb p (omega arith)) in
-    let there : p + suc d ≡ p + 1 + d = omega arith in
-    rw there (number_same a b (p + 1) k (λ i l. ha i (omega arith)) (λ i l. hb i (omega arith)) rest d (omega arith))
+-- places of which the first k, from place i on and from place j on, are the same array
+pub chunks-same : (a b : List ℕ) (i m j o k : ℕ) (r s : Option (Bor (List ℕ))) → k ≤ length (take m (drop i a)) → k ≤ length (take o (drop j b))
+    → k ≤ m → k ≤ o → MatchOption r (length (take m (drop i a)) < k) (λ y. IsFirstChunk (take m (drop i a)) y.now k)
+    → MatchOption s (length (take o (drop j b)) < k) (λ y. IsFirstChunk (take o (drop j b)) y.now k)
+    → option_eq (λ x y. pointwise eqb x.now y.now) r s ≡ true → (d : ℕ) → d < k → at a (i + d) ≡ at b (j + d)
+chunks-same a b i m j o k None s h g f e p q w d l = absurd (omega arith)
+chunks-same a b i m j o k (Some x) None h g f e p q w d l = absurd (omega arith)
+chunks-same a b i m j o k (Some x) (Some y) h g f e p q w d l =
+    let same : x.now ≡ y.now = (slice_eq-Decides Decides-eqb x.now y.now _ refl).0 w in
+    sym (part-at a i m d (omega arith))
+    ∙ sym (get_or-take k (take m (drop i a)) d 0 l)
+    ∙ ap (λ (z : List ℕ). get_or z d 0) (sym p.same ∙ same ∙ q.same)
+    ∙ get_or-take k (take o (drop j b)) d 0 l
+    ∙ part-at b j o d (omega arith)
 
 -- ---- the places at which two words differ
 

@@ -9,18 +9,19 @@
 --   difference-bit    == it is a bit
 --   bit_below         == a bit of a word
 --   bits-fewer        == bits at the first places are bits at fewer of them
---   odd-none          == no parity is counted yet
---   odd_step          == one parity more is counted
+--   total-below       == a list's first numbers, summed as a list and by their places
 --   odd-most          == no more are odd than there are
 -- Assumes nothing.
 use mathlib.Core.Path.{◌≡◌, refl, sym, ◌∙◌}
 use mathlib.Core.List.{List}
 use mathlib.Core.Logic.{inl, inr}
-use Prim.Native.Nat.{ℕ, ◌+◌, ◌-◌, ◌≤◌, ◌<◌}
+use Prim.Native.Nat.{ℕ, zero, suc, ◌+◌, ◌-◌, ◌≤◌, ◌<◌}
 use native.Mathlib.Numerals.{add-one}
 use native.Mathlib.Omega.{arith}
 use lib.Bits.{bit_xor}
-use lib.ListN.{set, length-set}
+use lib.ListN.{set, take, length, length-set}
+use Rattle.std.proofs.Common.{sum_by}
+use Rattle.std.proofs.lemmas.List.Sums.{sum_by_more}
 use Rattle.counting.specs.Paper.Sum.{sum_below}
 use Rattle.counting.specs.Places.{at, among}
 use Rattle.counting.proofs.Sums.{sum_bound, differ-bits, differ-le, same_refl, same-ne}
@@ -101,15 +102,14 @@ bits-fewer n k z w h j l = w j (omega arith)
 
 -- ---- parities counted
 
--- none yet
-pub odd-none : (f : ℕ → ℕ) → 0 ≡ sum_below 0 f
+-- a list's first m numbers, summed as a list and by their places
+pub total-below : (p : List ℕ) (m : ℕ) → m ≤ length p → sum_by (λ (x : ℕ). x) (take m p) ≡ sum_below m (at p)
 unfolding sum_below
-odd-none f = refl
-
--- one more
-pub odd_step : (f : ℕ → ℕ) (i t : ℕ) → t ≡ sum_below i f → t + f i ≡ sum_below (i + 1) f
-unfolding sum_below
-odd_step f i t e = rw (add-one i) (omega (arith, e))
+total-below p zero h = refl
+total-below p (suc m) h =
+    let more : sum_by (λ (x : ℕ). x) (take (suc m) p) ≡ sum_by (λ (x : ℕ). x) (take m p) + at p m =
+    rw (add-one m) at (sum_by_more (λ (x : ℕ). x) p m 0 (omega arith)) in
+    omega (arith, more, total-below p m (omega arith))
 
 -- no more are odd than there are
 pub odd-most : (p : List ℕ) → Bits p → (i : ℕ) → sum_below i (at p) ≤ i

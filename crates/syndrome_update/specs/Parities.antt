@@ -3,7 +3,6 @@
 --   BitsBelow n z            == an array with bits at its first n places
 --   ParitiesTurned f p p'    == the parity at each place i is turned over f i times
 --   differing a b j          == 1 where the words a and b differ at place j, else 0
---   number_from z p k        == the number that k bytes of z from place p on make, the first the lowest
 --   FlipsListed f n l l' t   == l becomes l', whose first t cells are the places below n at which f is 1; the cells past the next one stay
 --   column_rows x n j i      == how often row i stands among the rows of column j in the index x
 --   listed_rows x n l t i    == the same in the columns that the first t places of l are
@@ -11,7 +10,7 @@
 --   Parities H z p           == p holds the parity of each check of the word z
 --   Renewed H z p p'         == p becomes p', the parities of the word z; the cells past the checks stay
 -- Assumes nothing.
-use Rattle.std.specs.Prelude.{ℕ, zero, suc, ◌+◌, ◌*◌, ◌-◌, ◌%◌, ◌≤◌, ◌<◌, ◌≡◌, List, length}
+use Rattle.std.specs.Prelude.{ℕ, ◌+◌, ◌-◌, ◌%◌, ◌≤◌, ◌<◌, ◌≡◌, List, length}
 use Rattle.counting.specs.Paper.Sum.{sum_below, unequal}
 use Rattle.counting.specs.Places.{at, among}
 use Rattle.matrix.specs.Paper.Code.{Matrix, fails}
@@ -30,10 +29,6 @@ pub record ParitiesTurned (f : ℕ → ℕ) (p p' : List ℕ) : Type 0 where
 
 unfoldable pub differing : (ℕ → ℕ) → (ℕ → ℕ) → ℕ → ℕ
 differing a b j = unequal (a j) (b j)
-
-unfoldable pub number_from : List ℕ → ℕ → ℕ → ℕ
-number_from z p zero = 0
-number_from z p (suc k) = number_from z (p + 1) k * 256 + at z p
 
 -- the cell behind the places may hold one that was looked at and not counted
 pub record FlipsListed (f : ℕ → ℕ) (n : ℕ) (l l' : List ℕ) (t : ℕ) : Type 0 where

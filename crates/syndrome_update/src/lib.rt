@@ -6,28 +6,7 @@ ghost use Rattle.std.specs.Prelude.{ℕ, ◌+◌, ◌≤◌, ◌<◌, ◌≡◌,
 ghost use Rattle.counting.specs.Paper.Sum.{sum_below};
 ghost use Rattle.counting.specs.Places.{at, among};
 ghost use Rattle.syndrome.specs.Places.{Part, Places};
-ghost use Rattle.syndrome_update.specs.Parities.{Bits, BitsBelow, ParitiesTurned, differing, number_from, FlipsListed, column_rows, listed_rows, Columns};
-
-// A bit as a number of 64 bits.
-fn wide(x: u8) -> u64
-    ensures { result ≡ x }
-{
-    x as u64
-}
-
-// The number that eight bits of a word from place p on make, a byte each, the first the lowest: compiled, that is one load of 64 bits.
-fn eight(z: &[u8; 1023], p: usize) -> u64
-    requires { (p + 8 ≤ 1023) × BitsBelow (p + 8) z.now }
-    ensures { result ≡ number_from z.now p 8 }
-{
-    let mut x: u64 = 0;
-    let mut k = 8;
-    while k > 0 {
-        k -= 1;
-        x = x * 256 + wide(z[p + k]);
-    }
-    x
-}
+ghost use Rattle.syndrome_update.specs.Parities.{Bits, BitsBelow, ParitiesTurned, differing, FlipsListed, column_rows, listed_rows, Columns};
 
 // Lists the places from `from` to before `to` at which two words differ behind the first t, which are those before `from`; says how many are listed then.
 // Each place is written and then counted by the difference, so that no branch is guessed wrong.
@@ -43,16 +22,15 @@ fn list_part(
     ensures { FlipsListed (differing (at before.now) (at bits.now)) to places.old places.new result }
 {
     let mut t = t;
-    let mut j = from;
-    while j < to {
+    for j in from..to {
         places[t] = j as u16;
         t += (before[j] ^ bits[j]) as usize;
-        j += 1;
     }
     t
 }
 
-// The same for eight places from j on: where the words agree in all of them, nothing is written.
+// The same for eight places from j on: where the words agree in all of them, nothing is written. Compiled, the eight bytes of a word
+// are one load of 64 bits.
 fn list_eight(
     j: usize,
     before: &[u8; 1023],
@@ -63,7 +41,7 @@ fn list_eight(
     requires { (j + 8 ≤ 1023) × BitsBelow (j + 8) before.now × BitsBelow (j + 8) bits.now × Places (differing (at before.now) (at bits.now)) j places.old t }
     ensures { FlipsListed (differing (at before.now) (at bits.now)) (j + 8) places.old places.new result }
 {
-    if eight(before, j) == eight(bits, j) {
+    if before[j..j + 8].first_chunk::<8>() == bits[j..j + 8].first_chunk::<8>() {
         return t;
     }
     list_part(j, j + 8, before, bits, places, t)
@@ -76,13 +54,12 @@ pub fn list_flips(n: usize, before: &[u8; 1023], bits: &[u8; 1023], places: &mut
     requires { (n ≤ 1023) × BitsBelow n before.now × BitsBelow n bits.now × (length places.old ≡ 1023) }
     ensures { FlipsListed (differing (at before.now) (at bits.now)) n places.old places.new result }
 {
+    let eights = n / 8;
     let mut t = 0;
-    let mut j = 0;
-    while 8 <= n - j {
-        t = list_eight(j, before, bits, places, t);
-        j += 8;
+    for q in 0..eights {
+        t = list_eight(8 * q, before, bits, places, t);
     }
-    list_part(j, n, before, bits, places, t)
+    list_part(8 * eights, n, before, bits, places, t)
 }
 
 // Turns over the parity at each of `count` row numbers of the index.
@@ -90,11 +67,9 @@ fn turn_checks(index: &[u16], from: usize, count: usize, parity: &mut [u8; 1023]
     requires { Part index.now from count × Bits parity.old }
     ensures { ParitiesTurned (among index.now from count) parity.old parity.new }
 {
-    let mut k = 0;
-    while k < count {
-        let i = index[from + k] as usize;
-        parity[i] = parity[i] ^ 1;
-        k += 1;
+    let rows = &index[from..from + count];
+    for i in rows {
+        parity[*i as usize] ^= 1;
     }
 }
 
@@ -119,11 +94,8 @@ pub fn turn_listed(
     requires { Columns index.now n × (count ≤ 1023) × ((q : ℕ) → q < count → at places.now q < n) × Bits parity.old }
     ensures { ParitiesTurned (listed_rows index.now n places.now count) parity.old parity.new }
 {
-    let mut q = 0;
-    while q < count {
-        let j = places[q] as usize;
-        turn_column(index, n, j, parity);
-        q += 1;
+    for j in &places[..count] {
+        turn_column(index, n, *j as usize, parity);
     }
 }
 
@@ -132,11 +104,5 @@ pub fn count_odd(m: usize, parity: &[u8; 1023]) -> u16
     requires { (m ≤ 1023) × Bits parity.now }
     ensures { result ≡ sum_below m (at parity.now) }
 {
-    let mut t: u16 = 0;
-    let mut i = 0;
-    while i < m {
-        t += parity[i] as u16;
-        i += 1;
-    }
-    t
+    parity[..m].iter().map(|p| *p as u16).sum()
 }

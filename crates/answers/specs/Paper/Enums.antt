@@ -3,7 +3,7 @@
 --   outcome_of                                              == of an outcome: 0 decoded, 1 failed, 2 working
 --   verdict_of, report_of, said_of, counted_of, stored_of   == of a check, a report, a call that reports, a count of failing checks, a stored sheet
 -- Assumes nothing.
-use Rattle.std.specs.Prelude.{ℕ}
+use Rattle.std.specs.Prelude.{ℕ, Result, Ok, Err}
 use Rattle.answers.specs.Paper.Answers.{Verdict, accepted, refused, Said, refusal, report, count, stored}
 use Rattle.answers.specs.declared.Outcome.{Outcome}
 use Rattle.answers.specs.declared.Outcome.TheVariants.{Decoded, Failed, Working}
@@ -11,14 +11,6 @@ use Rattle.answers.specs.declared.Report.{Report}
 use Rattle.answers.specs.declared.Refusal.{Refusal}
 use Rattle.answers.specs.declared.Refusal.TheVariants.{Sizes, Length, Entry, Weight, Overlap, Setting, Buffer, Sample, Spare, Index, Sheet, NoSheet, Level}
 use Rattle.answers.specs.declared.Refusal.TheVariants.{Record, Ended, OtherSizes, Beyond}
-use Rattle.answers.specs.declared.Answer.{Answer}
-use Rattle.answers.specs.declared.Answer.TheVariants as answer
-use Rattle.answers.specs.declared.Checked.{Checked}
-use Rattle.answers.specs.declared.Checked.TheVariants as checked
-use Rattle.answers.specs.declared.Counted.{Counted}
-use Rattle.answers.specs.declared.Counted.TheVariants as counted
-use Rattle.answers.specs.declared.Stored.{Stored}
-use Rattle.answers.specs.declared.Stored.TheVariants as kept
 
 abbrev pub refusal_number : Refusal → ℕ
 refusal_number Sizes = 1
@@ -64,25 +56,25 @@ outcome_of Failed = 1
 outcome_of Working = 2
 
 -- a check says accepted, or the refusal's number and place
-abbrev pub verdict_of : Checked → Verdict
-verdict_of checked.Accepted = accepted
-verdict_of (checked.Refused f) = refused (refusal_number f) (refusal_place f)
+abbrev pub verdict_of : Result Unit Refusal → Verdict
+verdict_of (Ok u) = accepted
+verdict_of (Err f) = refused (refusal_number f) (refusal_place f)
 
 -- a report's four numbers
 abbrev pub report_of : Report → Said
 report_of p = report (outcome_of p.outcome) p.rounds p.failing p.changed
 
 -- a call that reports says its report, or the refusal's number and place
-abbrev pub said_of : Answer → Said
-said_of (answer.Done p) = report_of p
-said_of (answer.Refused f) = refusal (refusal_number f) (refusal_place f)
+abbrev pub said_of : Result Report Refusal → Said
+said_of (Ok p) = report_of p
+said_of (Err f) = refusal (refusal_number f) (refusal_place f)
 
 -- a count says its number, or the refusal's number and place
-abbrev pub counted_of : Counted → Said
-counted_of (counted.Failing k) = count k
-counted_of (counted.Refused f) = refusal (refusal_number f) (refusal_place f)
+abbrev pub counted_of : Result ℕ Refusal → Said
+counted_of (Ok k) = count k
+counted_of (Err f) = refusal (refusal_number f) (refusal_place f)
 
 -- a call that stores says how many bytes it wrote, or the refusal's number and place
-abbrev pub stored_of : Stored → Said
-stored_of (kept.Bytes k) = stored k
-stored_of (kept.Refused f) = refusal (refusal_number f) (refusal_place f)
+abbrev pub stored_of : Result ℕ Refusal → Said
+stored_of (Ok k) = stored k
+stored_of (Err f) = refusal (refusal_number f) (refusal_place f)

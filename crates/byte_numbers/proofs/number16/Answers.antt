@@ -5,4 +5,4 @@ use Rattle.byte_numbers.proofs.number16.Goals as goal
 
 pub returns : goal.returns
 unfolding number16
-returns c = omega (arith, c.wide.ensures.0, c.wide-2.ensures.0)
+returns c = omega arith

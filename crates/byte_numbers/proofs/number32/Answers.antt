@@ -21,8 +21,4 @@ returns c =
     omega (
       arith,
       four_bytes a.bytes.now a.p,
-      c.wider.ensures.0,
-      c.wider-2.ensures.0,
-      c.wider-3.ensures.0,
-      c.wider-4.ensures.0,
     )

@@ -5,7 +5,7 @@ use native.Mathlib.Omega.{arith}
 use borrow.Author.Tests.{not-false}
 use lib.ListN.{length}
 use lib.Ieee.{binary32, of_bits}
-use Rattle.counting.proofs.Writes.{over_none, over-step, over-long}
+use Rattle.counting.proofs.Writes.{over_none, over-step}
 use Rattle.counting.proofs.Searches.{any_none, any_step, any-clear, first-none, first-at}
 use Rattle.byte_numbers.specs.Paper.Numbers.{sample_in, not_finite_in}
 use Rattle.byte_numbers.proofs.Patterns.{no_nan}
@@ -14,40 +14,24 @@ use Rattle.byte_numbers.proofs.samples.Goals as goal
 
 pub loop-i-init : goal.loop-i-init
 loop-i-init c = (
-  omega arith,
   any_none _ 0 (λ j l. absurd (omega arith)),
   sym
       (over_none (sample_in c.args.bytes.now) c.args.xs.now),
 )
-
-pub shape_of-xs-then-not-finite_pattern : goal.shape_of-xs-then-not-finite_pattern
-shape_of-xs-then-not-finite_pattern c =
-    let l = c in
-    let s = l in
-    over-long l.loop-i.i (sample_in s.args.bytes.now) s.args.xs.now l.loop-i.xs l.loop-i.invariant.2 (omega arith)
 
 pub returns-then-not-finite_pattern : goal.returns-then-not-finite_pattern
 returns-then-not-finite_pattern c =
     let l = c in
     let bs = l.args.bytes.now in
     let t = not_finite_in bs in
-    let h : l.loop-i.i < length bs / 4 = c.loop-i-test.true in
+    let h : l.loop-i.i < length bs / 4 = omega arith in
     let off : t l.loop-i.i ≡ true =
     not-finite-at bs l.loop-i.i c.number32-p.result c.number32-p.ensures
     ∙ sym (ap not c.finite_pattern.ensures) ∙ (ap not c.if-not-finite_pattern.true) in
-    record {
-      place = sym (first-at t (length bs / 4) l.loop-i.i h (any-clear t l.loop-i.i l.loop-i.invariant.1) off);
-      cells = l.loop-i.invariant.2;
-    }
+    (record { place = sym (first-at t (length bs / 4) l.loop-i.i h (any-clear t l.loop-i.i l.loop-i.invariant.0) off); cells = l.loop-i.invariant.1 }, h)
 
 pub float_from_bits-xs : goal.float_from_bits-xs
 float_from_bits-xs c = no_nan c.number32-p.result (sym c.finite_pattern.ensures ∙ not-false _ (ap not c.if-not-finite_pattern.false))
-
-pub bounds-xs-i : goal.bounds-xs-i
-bounds-xs-i c =
-    let l = c in
-    let s = l in
-    omega (arith, over-long l.loop-i.i (sample_in s.args.bytes.now) s.args.xs.now l.loop-i.xs l.loop-i.invariant.2 (omega arith))
 
 pub loop-i-preserved : goal.loop-i-preserved
 loop-i-preserved c =
@@ -59,16 +43,9 @@ loop-i-preserved c =
     let e = c.number32-p.ensures in
     let room : l.loop-i.i < length s.args.xs.now = omega arith in
     let on : t l.loop-i.i ≡ false = not-finite-at bs l.loop-i.i p e ∙ sym (ap not c.finite_pattern.ensures) ∙ (ap not c.if-not-finite_pattern.false) in (
-      omega arith,
-      any_step t l.loop-i.i ∙ ap₂ ◌||◌ l.loop-i.invariant.1 on,
-      over-step l.loop-i.i (sample_in bs) s.args.xs.now l.loop-i.xs l.loop-i.invariant.2 (of_bits binary32 p) room (sample-of bs l.loop-i.i p e),
+      any_step t l.loop-i.i ∙ ap₂ ◌||◌ l.loop-i.invariant.0 on,
+      over-step l.loop-i.i (sample_in bs) s.args.xs.now l.loop-i.xs l.loop-i.invariant.1 (of_bits binary32 p) room (sample-of bs l.loop-i.i p e),
     )
-
-pub shape_of-xs : goal.shape_of-xs
-shape_of-xs c =
-    let l = c in
-    let s = l in
-    over-long l.loop-i.i (sample_in s.args.bytes.now) s.args.xs.now l.loop-i.xs l.loop-i.invariant.2 (omega arith)
 
 pub returns : goal.returns
 returns c =
@@ -77,6 +54,6 @@ returns c =
     let t = not_finite_in bs in
     let all : l.loop-i.i ≡ length bs / 4 = omega arith in
     record {
-      place = all ∙ sym (first-none t (length bs / 4) (λ j h. any-clear t l.loop-i.i l.loop-i.invariant.1 j (omega arith)));
-      cells = l.loop-i.invariant.2;
+      place = sym (first-none t (length bs / 4) (λ j h. any-clear t l.loop-i.i l.loop-i.invariant.0 j (omega arith)));
+      cells = rw (sym all) l.loop-i.invariant.1;
     }

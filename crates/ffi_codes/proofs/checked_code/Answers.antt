@@ -1,10 +1,11 @@
 -- `ffi_codes::checked_code` meets its contract: a refusal by what its own code ensures. Assumes nothing.
 use mathlib.Core.Path.{sym, ap, ◌∙◌}
-use Rattle.answers.specs.declared.Checked.{Checked}
+use Rattle.std.proofs.Common.{Result}
+use Rattle.answers.specs.declared.Refusal.{Refusal}
 use Rattle.answers.specs.Paper.Enums.{verdict_of}
 use Rattle.answers.specs.Paper.Answers.{after, acceptance}
 use Rattle.ffi_codes.specs.Codes.{code_of}
 use Rattle.ffi_codes.proofs.checked_code.Goals as goal
 
-pub returns-in-Refused : goal.returns-in-Refused
-returns-in-Refused c = c.refusal_code.ensures ∙ ap (λ (a : Checked). code_of (after (verdict_of a) acceptance)) (sym c.in-Refused.is)
+pub returns-in-Err : goal.returns-in-Err
+returns-in-Err c = c.refusal_code.ensures ∙ ap (λ (a : Result Unit Refusal). code_of (after (verdict_of a) acceptance)) (sym c.in-Err.is)

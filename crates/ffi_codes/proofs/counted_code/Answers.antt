@@ -1,12 +1,14 @@
 -- `ffi_codes::counted_code` meets its contract: each case by what it ensures. Assumes nothing.
 use mathlib.Core.Path.{sym, ap, ◌∙◌}
-use Rattle.answers.specs.declared.Counted.{Counted}
+use Prim.Native.Nat.{ℕ}
+use Rattle.std.proofs.Common.{Result}
+use Rattle.answers.specs.declared.Refusal.{Refusal}
 use Rattle.answers.specs.Paper.Enums.{counted_of}
 use Rattle.ffi_codes.specs.Codes.{code_of}
 use Rattle.ffi_codes.proofs.counted_code.Goals as goal
 
-pub returns-in-Failing : goal.returns-in-Failing
-returns-in-Failing c = ap (λ (a : Counted). code_of (counted_of a)) (sym c.in-Failing.is)
+pub returns-in-Ok : goal.returns-in-Ok
+returns-in-Ok c = ap (λ (a : Result ℕ Refusal). code_of (counted_of a)) (sym c.in-Ok.is)
 
-pub returns-in-Refused : goal.returns-in-Refused
-returns-in-Refused c = c.refusal_code.ensures ∙ ap (λ (a : Counted). code_of (counted_of a)) (sym c.in-Refused.is)
+pub returns-in-Err : goal.returns-in-Err
+returns-in-Err c = c.refusal_code.ensures ∙ ap (λ (a : Result ℕ Refusal). code_of (counted_of a)) (sym c.in-Err.is)

@@ -3,7 +3,8 @@ use mathlib.Core.Path.{◌≡◌, refl, sym, ap, ◌∙◌}
 use mathlib.Core.List.{[]}
 use lib.ListN.{length}
 use Rattle.answers.specs.Paper.Answers.{Verdict, and_then}
-use Rattle.answers.specs.Paper.Enums.{verdict_of, refusal_number, refusal_place}
+use Rattle.answers.specs.Paper.Enums.{refusal_number, refusal_place}
+use Rattle.answers.proofs.Verdicts.{handed_on}
 use Rattle.byte_numbers.specs.Paper.Numbers.{entries_in}
 use Rattle.matrix.specs.Paper.Code.{Matrix}
 use Rattle.matrix.specs.Paper.Check.{check_of}
@@ -20,10 +21,10 @@ on_read-requires c =
     let t = c in
     let k = t in
     let s = k in
-    few_bytes (matrix_of s.args.shape []) (length s.args.list.now) (sym k.ask_list.ensures ∙ ap verdict_of t.in-Accepted.is)
+    few_bytes (matrix_of s.args.shape []) (length s.args.list.now) (sym t.in_ok-ask_list.ensures)
 
-pub returns-in-Accepted : goal.returns-in-Accepted
-returns-in-Accepted c =
+pub returns : goal.returns
+returns c =
     let lent : Matrix = matrix_of c.args.shape (entries_in c.args.list.now) in
     let first : Verdict = list_verdict (matrix_of c.args.shape []) (length c.args.list.now) in
     let next : Verdict = and_then (check_of (lent))
@@ -36,10 +37,10 @@ returns-in-Accepted c =
     let t = r in
     let k = t in
     let s = k in
-    answered-by (asks) (answered-next (first) (next) (sym k.ask_list.ensures ∙ ap verdict_of t.in-Accepted.is) r.on_read.ensures)
+    answered-by (asks) (answered-next (first) (next) (sym t.in_ok-ask_list.ensures) r.on_read.ensures)
 
-pub returns-in-Refused : goal.returns-in-Refused
-returns-in-Refused c =
+pub returns-in_err-ask_list : goal.returns-in_err-ask_list
+returns-in_err-ask_list c =
     let lent : Matrix = matrix_of c.args.shape (entries_in c.args.list.now) in
     let first : Verdict = list_verdict (matrix_of c.args.shape []) (length c.args.list.now) in
     let next : Verdict = and_then (check_of (lent))
@@ -51,6 +52,7 @@ returns-in-Refused c =
     let a = c in
     let k = a in
     let s = k in
-    answered-by (asks)
+    let e = handed_on _ _ c.from_residual.ensures.1 in
+    rw e (answered-by (asks)
     (answered-stops (lent) (setting_of s.args.setting) s.args.samples.now s.args.word.now s.args.levels.now s.args.report.now
-    (first) (next) (refusal_number a.in-Refused.f) (refusal_place a.in-Refused.f) (sym k.ask_list.ensures ∙ ap verdict_of a.in-Refused.is))
+    (first) (next) (refusal_number a.in_err-ask_list.field-0.0) (refusal_place a.in_err-ask_list.field-0.0) (sym a.in_err-ask_list.ensures)))

@@ -1,8 +1,9 @@
 -- `firmware_decoding::on_accepted` meets its contract: a refusal by 6 or 7 keeps all three buffers, else what follows. Assumes nothing.
-use mathlib.Core.Path.{◌≡◌, sym, ap, ◌∙◌}
+use mathlib.Core.Path.{◌≡◌, sym}
 use lib.ListN.{length}
 use Rattle.answers.specs.Paper.Answers.{Verdict, accepted, refuse_at, and_then}
-use Rattle.answers.specs.Paper.Enums.{verdict_of, refusal_number, refusal_place}
+use Rattle.answers.specs.Paper.Enums.{refusal_number, refusal_place}
+use Rattle.answers.proofs.Verdicts.{handed_on}
 use Rattle.byte_numbers.specs.Paper.Numbers.{samples_in}
 use Rattle.matrix.specs.Paper.Shapes.{matrix_of}
 use Rattle.quantiser_levels.specs.Paper.Samples.{first_not_finite}
@@ -18,10 +19,10 @@ on_bytes-requires c =
     let t = c in
     let k = t in
     let s = k in
-    lent_fits (matrix_of s.args.shape s.args.list.now) _ _ _ _ _ s.requires (sym k.ask_lent-asked.ensures ∙ ap verdict_of t.in-Accepted.is)
+    lent_fits (matrix_of s.args.shape s.args.list.now) _ _ _ _ _ s.requires (sym t.in_ok-ask_lent.ensures)
 
-pub returns-in-Accepted : goal.returns-in-Accepted
-returns-in-Accepted c =
+pub returns : goal.returns
+returns c =
     let first : Verdict = lent_verdict c.args.shape.n (setting_of c.args.setting) (length c.args.samples.now) (length c.args.word.now)
     (length c.args.levels.now) (length c.args.report.now) in
     let next : Verdict = refuse_at 8 (first_not_finite (samples_in c.args.samples.now)) (length (samples_in c.args.samples.now)) accepted in
@@ -31,10 +32,10 @@ returns-in-Accepted c =
     let t = r in
     let k = t in
     let s = k in
-    answered-by (asks) (answered-next (first) (next) (sym k.ask_lent-asked.ensures ∙ ap verdict_of t.in-Accepted.is) r.on_bytes.ensures)
+    answered-by (asks) (answered-next (first) (next) (sym t.in_ok-ask_lent.ensures) r.on_bytes.ensures)
 
-pub returns-in-Refused : goal.returns-in-Refused
-returns-in-Refused c =
+pub returns-in_err-ask_lent : goal.returns-in_err-ask_lent
+returns-in_err-ask_lent c =
     let first : Verdict = lent_verdict c.args.shape.n (setting_of c.args.setting) (length c.args.samples.now) (length c.args.word.now)
     (length c.args.levels.now) (length c.args.report.now) in
     let next : Verdict = refuse_at 8 (first_not_finite (samples_in c.args.samples.now)) (length (samples_in c.args.samples.now)) accepted in
@@ -43,7 +44,8 @@ returns-in-Refused c =
     let a = c in
     let k = a in
     let s = k in
-    answered-by (asks)
+    let e = handed_on _ _ c.from_residual.ensures.1 in
+    rw e (answered-by (asks)
     (answered-stops (matrix_of s.args.shape s.args.list.now) (setting_of s.args.setting) s.args.samples.now s.args.word.now
-    s.args.levels.now s.args.report.now (first) (next) (refusal_number a.in-Refused.f) (refusal_place a.in-Refused.f)
-    (sym k.ask_lent-asked.ensures ∙ ap verdict_of a.in-Refused.is))
+    s.args.levels.now s.args.report.now (first) (next) (refusal_number a.in_err-ask_lent.field-0.0) (refusal_place a.in_err-ask_lent.field-0.0)
+    (sym a.in_err-ask_lent.ensures)))

@@ -1,8 +1,9 @@
 -- `firmware_decoding::on_list` meets its contract: the matrix check's refusal keeps all three buffers, else what follows. Assumes nothing.
-use mathlib.Core.Path.{sym, ap, ◌∙◌}
+use mathlib.Core.Path.{sym}
 use lib.ListN.{length}
 use Rattle.answers.specs.Paper.Answers.{Verdict}
-use Rattle.answers.specs.Paper.Enums.{verdict_of, refusal_number, refusal_place}
+use Rattle.answers.specs.Paper.Enums.{refusal_number, refusal_place}
+use Rattle.answers.proofs.Verdicts.{handed_on}
 use Rattle.matrix.specs.Paper.Code.{Matrix}
 use Rattle.matrix.specs.Paper.Check.{check_of}
 use Rattle.matrix.specs.Paper.Shapes.{matrix_of}
@@ -18,10 +19,10 @@ on_accepted-requires c =
     let t = c in
     let k = t in
     let s = k in
-    accepted-is (lent) (sym k.check.ensures ∙ ap verdict_of t.in-Accepted.is)
+    accepted-is (lent) (sym t.in_ok-check.ensures)
 
-pub returns-in-Accepted : goal.returns-in-Accepted
-returns-in-Accepted c =
+pub returns : goal.returns
+returns c =
     let lent : Matrix = matrix_of c.args.shape c.args.list.now in
     let next : Verdict = bytes_verdict c.args.shape.n (setting_of c.args.setting) c.args.samples.now (length c.args.word.now) (length c.args.levels.now)
     (length c.args.report.now) in
@@ -29,15 +30,16 @@ returns-in-Accepted c =
     let t = r in
     let k = t in
     let s = k in
-    answered-next (check_of (lent)) (next) (sym k.check.ensures ∙ ap verdict_of t.in-Accepted.is) r.on_accepted.ensures
+    answered-next (check_of (lent)) (next) (sym t.in_ok-check.ensures) r.on_accepted.ensures
 
-pub returns-in-Refused : goal.returns-in-Refused
-returns-in-Refused c =
+pub returns-in_err-check : goal.returns-in_err-check
+returns-in_err-check c =
     let lent : Matrix = matrix_of c.args.shape c.args.list.now in
     let next : Verdict = bytes_verdict c.args.shape.n (setting_of c.args.setting) c.args.samples.now (length c.args.word.now) (length c.args.levels.now)
     (length c.args.report.now) in
     let a = c in
     let k = a in
     let s = k in
-    answered-stops (lent) (setting_of s.args.setting) s.args.samples.now s.args.word.now s.args.levels.now s.args.report.now
-    (check_of (lent)) (next) (refusal_number a.in-Refused.f) (refusal_place a.in-Refused.f) (sym k.check.ensures ∙ ap verdict_of a.in-Refused.is)
+    let e = handed_on _ _ c.from_residual.ensures.1 in
+    rw e (answered-stops (lent) (setting_of s.args.setting) s.args.samples.now s.args.word.now s.args.levels.now s.args.report.now
+    (check_of (lent)) (next) (refusal_number a.in_err-check.field-0.0) (refusal_place a.in_err-check.field-0.0) (sym a.in_err-check.ensures))

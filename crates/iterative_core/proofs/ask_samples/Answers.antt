@@ -27,22 +27,21 @@ returns-then-wrong_lengths c =
     let a = c.args in
     says-lengths a.n (setting_of a.setting) a.samples.now a.bytes a.room (fits) (sym c.wrong_lengths.ensures ∙ c.if-wrong_lengths.true)
 
-pub overflow_cast-place : goal.overflow_cast-place
-overflow_cast-place c =
+pub overflow_cast-result : goal.overflow_cast-result
+overflow_cast-result c =
     let lengths : let a = c.args in wrong_lengths (length a.samples.now) a.n a.bytes (bytes_for a.n) a.room a.n ≡ false = sym c.wrong_lengths.ensures ∙ c.if-wrong_lengths.false in
     let b = c in
     let s = c in
     let a = s.args in
-    omega (arith, (lengths-fit (length a.samples.now) a.n a.bytes (bytes_for a.n) a.room a.n (lengths)).0, c.if-found-samples.true, s.requires)
+    omega (arith, (lengths-fit (length a.samples.now) a.n a.bytes (bytes_for a.n) a.room a.n (lengths)).0, c.in-Some.ensures.1, s.requires)
 
-pub returns-then-found-samples : goal.returns-then-found-samples
-returns-then-found-samples c =
+pub returns-in-Some : goal.returns-in-Some
+returns-in-Some c =
     let fits : setting_fits (setting_of c.args.setting) ≡ true = sym c.setting_fits.ensures ∙ not-false _ (ap not c.if-not-setting_fits.false) in
     let lengths : let a = c.args in wrong_lengths (length a.samples.now) a.n a.bytes (bytes_for a.n) a.room a.n ≡ false = sym c.wrong_lengths.ensures ∙ c.if-wrong_lengths.false in
     let b = c in
     let a = c.args in
-    says-sample a.n (setting_of a.setting) a.samples.now a.bytes a.room (fits) (lengths) _
-    c.first_not_finite-found.ensures c.if-found-samples.true
+    says-sample a.n (setting_of a.setting) a.samples.now a.bytes a.room (fits) (lengths) _ c.in-Some.ensures.0 c.in-Some.ensures.1
 
 pub returns : goal.returns
 returns c =
@@ -50,5 +49,4 @@ returns c =
     let lengths : let a = c.args in wrong_lengths (length a.samples.now) a.n a.bytes (bytes_for a.n) a.room a.n ≡ false = sym c.wrong_lengths.ensures ∙ c.if-wrong_lengths.false in
     let b = c in
     let a = c.args in
-    says-finite a.n (setting_of a.setting) a.samples.now a.bytes a.room (fits) (lengths) _
-    c.first_not_finite-found.ensures c.if-found-samples.false
+    says-finite a.n (setting_of a.setting) a.samples.now a.bytes a.room (fits) (lengths) (length a.samples.now) (sym c.in_default.ensures) (omega arith)

@@ -1,6 +1,5 @@
 use mathlib.Core.Path.{◌≡◌, ap, ◌∙◌}
 use Prim.Native.Nat.{◌<◌}
-use native.Mathlib.Nat.{le_antisymm}
 use native.Mathlib.Omega.{arith}
 use lib.IntN.{pos}
 use lib.ListN.{get_or}
@@ -13,7 +12,7 @@ use Rattle.iterative_levels.proofs.Passes.{biased-none, biased-step}
 use Rattle.iterative_levels.proofs.bias.Goals as goal
 
 pub loop-j-init : goal.loop-j-init
-loop-j-init c = (omega arith, biased-none _ _ _ c.requires.1)
+loop-j-init c = biased-none _ _ _ c.requires.1
 
 pub bias_one-requires : goal.bias_one-requires
 bias_one-requires c =
@@ -31,12 +30,7 @@ loop-j-preserved c =
     let r = get_or c.args.levels.now c.loop-j.j (pos 0) in
     to_z-of_z cell r (level-cell r c.args.middle p.largest (p.within c.loop-j.j h)) in
     let l = c in
-    let a = c.args in (
-      omega arith,
-      biased-step l.loop-j.j a.middle a.levels.now a.kept.now l.loop-j.kept l.loop-j.invariant.1
-          (omega (arith, c.requires.0.columns)) c.bias_one.result
-          (c.bias_one.ensures ∙ ap (biased a.middle) (cell-back (omega arith))),
-    )
-
-pub returns : goal.returns
-returns c = rw (le_antisymm c.loop-j.invariant.0 (omega arith)) at c.loop-j.invariant.1
+    let a = c.args in
+    biased-step l.loop-j.j a.middle a.levels.now a.kept.now l.loop-j.kept l.loop-j.invariant
+    (omega (arith, c.requires.0.columns)) c.bias_one.result
+    (c.bias_one.ensures ∙ ap (biased a.middle) (cell-back (omega arith)))

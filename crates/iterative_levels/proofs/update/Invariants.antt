@@ -1,12 +1,8 @@
 -- `iterative_levels::update` meets its contract. The invariant: the first j bits and levels are those of the next round, the others as they were.
 -- Assumes nothing.
-use Prim.Native.Nat.{◌-◌, ◌≤◌}
 use Rattle.counting.specs.Places.{at}
 use Rattle.iterative_levels.specs.Levels.{Moved}
 use Rattle.iterative_levels.proofs.update.Given as goal
 
 abbrev pub invariant-loop-j : goal.invariant-loop-j
-invariant-loop-j l = (l.j ≤ l.n) × Moved l.votes (at l.weights) l.j l.middle l.ceiling l.initial.bits l.initial.levels l.bits l.levels
-
-abbrev pub decreases-loop-j : goal.decreases-loop-j
-decreases-loop-j l = l.n - l.j
+invariant-loop-j l = Moved l.votes (at l.weights) l.j l.middle l.ceiling l.initial.bits l.initial.levels l.bits l.levels

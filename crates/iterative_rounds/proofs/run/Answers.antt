@@ -10,6 +10,7 @@ use Rattle.matrix.specs.Tallies.{Weighed}
 use Rattle.matrix_index.specs.Paper.Index.{index_size}
 use Rattle.matrix_index.proofs.Parts.{index-long}
 use Rattle.matrix_index.proofs.Gaps.{starts-rise, gaps-weighed}
+use Rattle.syndrome_update.proofs.KeptParities.{zero-parities}
 use Rattle.iterative_rounds.proofs.States.{weighed-narrow, narrow-weighed}
 use Rattle.iterative_rounds.proofs.run.Goals as goal
 
@@ -39,4 +40,4 @@ rounds_on-requires c =
     let k = c in
     let w = k in
     let s = c in
-    (s.requires.0, s.requires.1, narrow-weighed (lent_matrix) (wide) _ _ (own-weights) k.narrow.ensures)
+    record { run_lent = (s.requires.0, narrow-weighed (lent_matrix) (wide) _ _ (own-weights) k.narrow.ensures); kept = (s.requires.1, zero-parities (lent_matrix)) }

@@ -11,6 +11,7 @@ use Rattle.syndrome_words.specs.Sets.{ColumnSets}
 use Rattle.matrix_columns.proofs.Columns.{columns-sets, weights-small, weights-weighed}
 use Rattle.matrix_rows.specs.Rows.{RowSets}
 use Rattle.matrix_rows.proofs.Rows.{rows-sets}
+use Rattle.syndrome_words.proofs.Sets.{zero-parities, zero-votes}
 use Rattle.matrix_sets.proofs.Sets.{sets-long, sets-room, sets-columns, sets_rows}
 use Rattle.iterative_sets.proofs.run.Goals as goal
 
@@ -29,22 +30,22 @@ weigh-requires c =
     let s = c in
     (s.requires.0.matrix.sizes.n_most, (columns).room, weights-small (lent) s.requires.0.matrix _ (columns), refl)
 
-pub slice_bounds-rounds_on-end : goal.slice_bounds-rounds_on-end
-slice_bounds-rounds_on-end c =
+pub slice_bounds-way-end : goal.slice_bounds-way-end
+slice_bounds-way-end c =
     let from : ℕ = 17 * c.args.shape.n in
     let lent : Matrix = matrix_of c.args.shape c.args.list.now in
     let front : from ≤ length c.args.sets.now = omega (arith, (sets-room (lent) {k = length c.args.sets.now} (omega (arith, ap length c.requires.1, sets-long (lent)))).0) in
     let s = c in sym (length-take-le (from) s.args.sets.now (front))
 
-pub slice_bounds-rounds_on-count : goal.slice_bounds-rounds_on-count
-slice_bounds-rounds_on-count c =
+pub slice_bounds-way-count : goal.slice_bounds-way-count
+slice_bounds-way-count c =
     let from : ℕ = 17 * c.args.shape.n in
     let lent : Matrix = matrix_of c.args.shape c.args.list.now in
     let front : from ≤ length c.args.sets.now = omega (arith, (sets-room (lent) {k = length c.args.sets.now} (omega (arith, ap length c.requires.1, sets-long (lent)))).0) in
     omega (arith, front)
 
-pub slice_bounds-rounds_on-start : goal.slice_bounds-rounds_on-start
-slice_bounds-rounds_on-start c =
+pub slice_bounds-way-start : goal.slice_bounds-way-start
+slice_bounds-way-start c =
     let from : ℕ = 17 * c.args.shape.n in
     let lent : Matrix = matrix_of c.args.shape c.args.list.now in
     let front : from ≤ length c.args.sets.now = omega (arith, (sets-room (lent) {k = length c.args.sets.now} (omega (arith, ap length c.requires.1, sets-long (lent)))).0) in
@@ -60,4 +61,7 @@ rounds_on-requires c =
     subst (RowSets (lent)) (sym (take_all (length x - from) (drop (from) x) rest ∙ sets_rows (lent) x c.requires.1)) (rows-sets (lent) c.requires.0.matrix) in
     let s = c in
     let w = c.weigh in
-    (s.requires.0, columns, weights-weighed (lent) s.requires.0.matrix _ (columns) _ (replicate 1023 0) refl w.ensures, rows)
+    record {
+      run_lent = (s.requires.0, weights-weighed (lent) s.requires.0.matrix _ (columns) _ (replicate 1023 0) refl w.ensures);
+      kept = (columns, rows, zero-parities (lent), zero-votes (lent), refl);
+    }

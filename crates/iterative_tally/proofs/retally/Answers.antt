@@ -9,11 +9,6 @@ use Rattle.syndrome_update.proofs.KeptParities.{failing-places}
 use Rattle.majority_votes.proofs.Sums.{failing-parts, failing-room, tallied}
 use Rattle.iterative_tally.proofs.retally.Goals as goal
 
-pub list_odd-count-requires : goal.list_odd-count-requires
-list_odd-count-requires c =
-    let r = c in
-    (c.requires.accepted.0.sizes.m_most, λ i _. r.renew.ensures.renewed.parities.bits.bit i, r.renew.ensures.listed.places.long)
-
 pub add_rows-requires : goal.add_rows-requires
 add_rows-requires c =
     let lent : Matrix = matrix_of c.args.shape c.args.list.now in

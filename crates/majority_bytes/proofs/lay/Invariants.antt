@@ -1,6 +1,6 @@
 -- `majority_bytes::lay` meets its contract. The invariant: the bytes of the first q words are written. Assumes nothing.
 use mathlib.Core.Path.{◌≡◌}
-use Prim.Native.Nat.{ℕ, ◌*◌, ◌-◌, ◌/◌, ◌%◌, ◌≤◌, ◌<◌}
+use Prim.Native.Nat.{ℕ, ◌*◌, ◌/◌, ◌%◌, ◌<◌}
 use lib.ListN.{length}
 use Rattle.counting.specs.Places.{at}
 use Rattle.majority_bytes.specs.Bytes.{byte_of}
@@ -8,7 +8,4 @@ use Rattle.majority_bytes.proofs.lay.Given as goal
 
 abbrev pub invariant-loop-q : goal.invariant-loop-q
 invariant-loop-q l =
-    (l.q ≤ 128) × (length l.bytes ≡ 1024) × ((j : ℕ) → j < 8 * l.q → at l.bytes j ≡ byte_of (at l.sums (j / 8)) (j % 8))
-
-abbrev pub decreases-loop-q : goal.decreases-loop-q
-decreases-loop-q l = 128 - l.q
+    (length l.bytes ≡ 1024) × ((j : ℕ) → j < 8 * l.q → at l.bytes j ≡ byte_of (at l.sums (j / 8)) (j % 8))

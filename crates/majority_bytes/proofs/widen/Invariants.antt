@@ -1,6 +1,6 @@
 -- `majority_bytes::widen` meets its contract. The invariant: the words for the first s places are written. Assumes nothing.
 use mathlib.Core.Path.{◌≡◌}
-use Prim.Native.Nat.{ℕ, ◌*◌, ◌-◌, ◌/◌, ◌%◌, ◌≤◌, ◌<◌}
+use Prim.Native.Nat.{ℕ, ◌*◌, ◌/◌, ◌%◌, ◌<◌}
 use lib.ListN.{length}
 use Rattle.counting.specs.Places.{at}
 use Rattle.majority_planes.specs.Planes.{plane_value}
@@ -9,7 +9,4 @@ use Rattle.majority_bytes.proofs.widen.Given as goal
 
 abbrev pub invariant-loop-s : goal.invariant-loop-s
 invariant-loop-s l =
-    (l.s ≤ 8) × (length l.sums ≡ 128) × ((k : ℕ) → k < 16 * l.s → at l.sums k ≡ wide_of (plane_value l.planes (k % 16)) (k / 16))
-
-abbrev pub decreases-loop-s : goal.decreases-loop-s
-decreases-loop-s l = 8 - l.s
+    (length l.sums ≡ 128) × ((k : ℕ) → k < 16 * l.s → at l.sums k ≡ wide_of (plane_value l.planes (k % 16)) (k / 16))

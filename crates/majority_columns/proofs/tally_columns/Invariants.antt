@@ -1,5 +1,4 @@
 -- `majority_columns::tally_columns`. The loop's invariant: the votes on the first `j` bits are written over the old ones.
-use Prim.Native.Nat.{◌-◌, ◌≤◌}
 use mathlib.Core.Path.{◌≡◌}
 use Rattle.counting.specs.Paper.Lists.{listed, over}
 use Rattle.counting.specs.Places.{at}
@@ -7,7 +6,4 @@ use Rattle.majority_columns.specs.ColumnVotes.{column_votes}
 use Rattle.majority_columns.proofs.tally_columns.Given as goal
 
 abbrev pub invariant-loop-j : goal.invariant-loop-j
-invariant-loop-j l = (l.j ≤ l.n) × (l.votes ≡ over (listed l.j (column_votes l.index l.n (at l.parity))) l.initial.votes)
-
-abbrev pub decreases-loop-j : goal.decreases-loop-j
-decreases-loop-j l = l.n - l.j
+invariant-loop-j l = l.votes ≡ over (listed l.j (column_votes l.index l.n (at l.parity))) l.initial.votes

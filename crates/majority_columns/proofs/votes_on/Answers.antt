@@ -1,20 +1,7 @@
 -- `majority_columns::votes_on`: the rows of the column stand between its starting place and the next.
-use native.Mathlib.Omega.{arith}
 use Rattle.counting.specs.Places.{at}
 use Rattle.majority_columns.proofs.Columns.{votes-is, few-at}
 use Rattle.majority_columns.proofs.votes_on.Goals as goal
-
-pub overflow_cast-from : goal.overflow_cast-from
-overflow_cast-from c = let s = c in omega (arith, (s.requires.0.part s.args.j s.requires.2).short)
-
-pub overflow_cast-to : goal.overflow_cast-to
-overflow_cast-to c = let s = c in omega (arith, (s.requires.0.part s.args.j s.requires.2).short, s.requires.0.rises s.args.j s.requires.2)
-
-pub overflow_add-n-2 : goal.overflow_add-n-2
-overflow_add-n-2 c = let s = c in omega (arith, (s.requires.0.part s.args.j s.requires.2).short)
-
-pub overflow_sub-to : goal.overflow_sub-to
-overflow_sub-to c = let s = c in s.requires.0.rises s.args.j s.requires.2
 
 pub odd_among-requires : goal.odd_among-requires
 odd_among-requires c =

@@ -1,11 +1,6 @@
 -- `majority_flips::flip_front`. The loop's invariant: the first `j` bits are voted on, the others are as they were.
-use Prim.Native.Nat.{◌-◌, ◌≤◌}
-use Rattle.counting.specs.Places.{at}
 use Rattle.majority_flips.specs.Flips.{VotedBits}
 use Rattle.majority_flips.proofs.flip_front.Given as goal
 
 abbrev pub invariant-loop-j : goal.invariant-loop-j
-invariant-loop-j l = (l.j ≤ l.n) × VotedBits l.j (at l.weights) l.votes l.initial.bits l.bits
-
-abbrev pub decreases-loop-j : goal.decreases-loop-j
-decreases-loop-j l = l.n - l.j
+invariant-loop-j g l = VotedBits l.j (g.W.Weights.weight l.weights) l.votes l.initial.bits l.bits

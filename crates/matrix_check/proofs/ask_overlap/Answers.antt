@@ -1,4 +1,5 @@
 -- `matrix_check::ask_overlap` meets its contract: each answer is the one that has the matrix's reading. Assumes nothing.
+use mathlib.Core.Path.{sym}
 use native.Mathlib.Omega.{arith}
 use Rattle.counting.proofs.Decisions.{found, missed}
 use Rattle.matrix.specs.Paper.Code.{Matrix}
@@ -7,21 +8,20 @@ use Rattle.matrix.specs.Paper.Shapes.{matrix_of}
 use Rattle.matrix.proofs.PlainCheck.{overlaps, accepts, reads_only}
 use Rattle.matrix_check.proofs.ask_overlap.Goals as goal
 
-pub returns-then-i-m : goal.returns-then-i-m
-returns-then-i-m c =
-    let lent : Matrix = matrix_of c.args.shape c.args.list.now in
+pub returns-in-Some : goal.returns-in-Some
+returns-in-Some c =
+    let H : Matrix = matrix_of c.args.shape c.args.list.now in
     let b = c in
     let o = b.requires.0 in
-    reads_only (lent) _
-    (rows_overlap o.sized.sizes o.sized.whole o.clear b.requires.1.inside b.requires.1.least
-    (found (overlaps (lent)) _ c.first_overlap-i.result c.first_overlap-i.ensures c.if-i-m.true))
+    let i = c.in-Some.ensures in
+    reads_only H _
+    (rows_overlap o.sized.sizes o.sized.whole o.clear b.requires.1.inside b.requires.1.least (found (overlaps H) _ c.in-Some.i i.0 i.1))
 
 pub returns : goal.returns
 returns c =
-    let lent : Matrix = matrix_of c.args.shape c.args.list.now in
+    let H : Matrix = matrix_of c.args.shape c.args.list.now in
     let b = c in
     let o = b.requires.0 in
-    reads_only (lent) _
-    (fine
-    (accepts (lent) o.sized.sizes o.sized.whole o.clear b.requires.1.inside b.requires.1.least
-    (missed (overlaps (lent)) _ c.first_overlap-i.result c.first_overlap-i.ensures (omega (arith, c.if-i-m.false)))))
+    reads_only H _
+    (fine (accepts H o.sized.sizes o.sized.whole o.clear b.requires.1.inside b.requires.1.least
+    (missed (overlaps H) H.m H.m (sym c.in_default.ensures) (omega arith))))

@@ -1,24 +1,32 @@
 -- `matrix_check::check_list` meets its contract: each answer is the one that has the matrix's reading. Assumes nothing.
+use mathlib.Core.List.{List}
 use mathlib.Core.Path.{◌≡◌, sym, ap, ◌∙◌}
-use Prim.Native.Nat.{ℕ}
+use Prim.Native.Nat.{ℕ, ◌<◌}
 use native.Mathlib.Decide.{dec_lt}
 use native.Mathlib.Omega.{arith}
 use lib.ListN.{length}
+use Rattle.std.specs.Prelude.{Option, Some, None, MatchOption, unwrap_or}
 use Rattle.answers.specs.Paper.Answers.{refused}
 use Rattle.counting.specs.Paper.Search.{first}
 use Rattle.counting.proofs.Searches.{first-le}
 use Rattle.counting.proofs.Decisions.{found, missed}
 use Rattle.matrix.specs.Paper.Code.{Matrix}
-use Rattle.matrix.specs.Paper.Check.{bad_entry, bad_weight, check_of}
-use Rattle.matrix.specs.Paper.PlainCheck.{BadEntry, Never, entry_bad, weight_bad, weight_none}
+use Rattle.matrix.specs.Paper.Check.{bad_weight, check_of}
+use Rattle.matrix.specs.Paper.PlainCheck.{entry_bad, weight_bad, weight_none}
 use Rattle.matrix.specs.Paper.Shapes.{matrix_of}
-use Rattle.matrix.specs.Ordered.{Ordered, WeightsFit}
+use Rattle.matrix.specs.Ordered.{Sized, Ordered, WeightsFit}
 use Rattle.matrix.specs.Tallies.{Weighed}
 use Rattle.matrix.proofs.PlainCheck.{entries, weights, reads_only}
 use Rattle.matrix.proofs.Ordered.{few}
 use Rattle.matrix.proofs.Tallies.{tally-none}
+use Rattle.matrix_weights.specs.Weights.{Walked, out_weight}
 use Rattle.matrix_weights.proofs.Weights.{tally-weight, counted-off, counted-fit, fit-counted}
 use Rattle.matrix_check.proofs.check_list.Goals as goal
+
+-- a place, and the bound where there is none
+place-or-bound : (f n : ℕ) (r : Option ℕ) → MatchOption r (f ≡ n) (λ j. (j ≡ f) × (j < n)) → unwrap_or r n ≡ f
+place-or-bound f n None e = sym e
+place-or-bound f n (Some j) e = e.0
 
 -- weights that do not fit: the first that is off is the place, and n where none is, as then none is gamma
 weights-refused : (H : Matrix) → Ordered H → (x : ℕ) → x ≡ first (bad_weight H) H.n → (WeightsFit H → ⊥) → refused 4 x ≡ check_of H
@@ -32,60 +40,39 @@ weights-refused H o x e unfit =
           ∙ reads_only H _ (weight_none o.sized.sizes o.sized.whole o.clear inside (λ j l w. unfit (record { inside = inside; least = (j, l, w) })))
     ]
 
-pub walk-p-requires : goal.walk-p-requires
-walk-p-requires c = (c.requires, tally-none _)
+-- where the walk ends at the list's end no entry is bad, and the columns' weights are counted
+module _ (H : Matrix) (z : Sized H) {v : List ℕ} (w : Walked H v (length H.list)) where
+  ordered : Ordered H
+  ordered = record { sized = z; clear = missed (entries H) (length H.list) (length H.list) w.place (omega arith) }
+
+  weighed : Weighed H v
+  weighed j l = tally-weight H v z.whole w.tallied j (omega (arith, z.sizes.n_most))
+
+pub walk-requires : goal.walk-requires
+walk-requires c = (c.requires, tally-none _)
 
 pub overflow_cast-result : goal.overflow_cast-result
-overflow_cast-result c = omega (arith, few c.requires, c.if-p-list.true)
+overflow_cast-result c = omega (arith, few c.requires, c.in-Some.ensures.1)
 
-pub returns-then-p-list : goal.returns-then-p-list
-returns-then-p-list c =
-    let lent : Matrix = matrix_of c.args.shape c.args.list.now in
+pub returns-in-Some : goal.returns-in-Some
+returns-in-Some c =
+    let H : Matrix = matrix_of c.args.shape c.args.list.now in
     let b = c in
-    reads_only (lent) _
-    (entry_bad b.requires.sizes b.requires.whole (found (entries (lent)) _ c.walk-p.result c.walk-p.ensures.place c.if-p-list.true))
+    let p = c.in-Some.ensures in
+    reads_only H _ (entry_bad b.requires.sizes b.requires.whole (found (entries H) _ c.in-Some.p p.0.place p.1))
 
 pub ask_overlap-requires : goal.ask_overlap-requires
 ask_overlap-requires c =
-    let lent : Matrix = matrix_of c.args.shape c.args.list.now in
-    let clear : let H = lent in Never (BadEntry H) (length H.list) = missed (entries _) _ c.walk-p.result c.walk-p.ensures.place (omega (arith, c.if-p-list.false)) in
-    let ordered : Ordered (lent) = record { sized = c.requires; clear = clear } in
-    let tallied : Weighed (lent) c.walk-p.new.weights = λ j. λ l. let b = c in
-    let w = c.walk-p in
-    let e : w.result ≡ length (lent).list =
-    omega (arith, w.ensures.place, first-le (bad_entry (lent)) (length (lent).list), c.if-p-list.false) in
-    tally-weight (lent) w.new.weights b.requires.whole (rw e at w.ensures.tallied) j (omega (arith, b.requires.sizes.n_most)) in
-    let l = c in
-    let b = l in
-    (ordered, counted-fit (lent) l.walk-p.new.weights (tallied) (sym c.weights_fit.ensures ∙ c.if-weights_fit.true))
-
-pub overflow_cast-result-2 : goal.overflow_cast-result-2
-overflow_cast-result-2 c =
-    let lent : Matrix = matrix_of c.args.shape c.args.list.now in
-    let tallied : Weighed (lent) c.walk-p.new.weights = λ j. λ l. let b = c in
-    let w = c.walk-p in
-    let e : w.result ≡ length (lent).list =
-    omega (arith, w.ensures.place, first-le (bad_entry (lent)) (length (lent).list), c.if-p-list.false) in
-    tally-weight (lent) w.new.weights b.requires.whole (rw e at w.ensures.tallied) j (omega (arith, b.requires.sizes.n_most)) in
-    let place_is : let H = lent in c.first_off_weight-j.result ≡ first (bad_weight H) H.n = let l = c in
-    c.first_off_weight-j.ensures ∙ counted-off (lent) l.walk-p.new.weights (tallied) in
-    let b = c in
-    omega (arith, place_is, first-le (bad_weight (lent)) (lent).n, b.requires.sizes.n_most)
+    let H : Matrix = matrix_of c.args.shape c.args.list.now in
+    let w = c.in_default.ensures in
+    (ordered H c.requires w, counted-fit H c.walk.new.weights (weighed H c.requires w) (sym c.weights_fit.ensures ∙ c.if-weights_fit.true))
 
 pub returns : goal.returns
 returns c =
-    let lent : Matrix = matrix_of c.args.shape c.args.list.now in
-    let clear : let H = lent in Never (BadEntry H) (length H.list) = missed (entries _) _ c.walk-p.result c.walk-p.ensures.place (omega (arith, c.if-p-list.false)) in
-    let ordered : Ordered (lent) = record { sized = c.requires; clear = clear } in
-    let tallied : Weighed (lent) c.walk-p.new.weights = λ j. λ l. let b = c in
-    let w = c.walk-p in
-    let e : w.result ≡ length (lent).list =
-    omega (arith, w.ensures.place, first-le (bad_entry (lent)) (length (lent).list), c.if-p-list.false) in
-    tally-weight (lent) w.new.weights b.requires.whole (rw e at w.ensures.tallied) j (omega (arith, b.requires.sizes.n_most)) in
-    let place_is : let H = lent in c.first_off_weight-j.result ≡ first (bad_weight H) H.n = let l = c in
-    c.first_off_weight-j.ensures ∙ counted-off (lent) l.walk-p.new.weights (tallied) in
-    let f = c in
-    let l = f in
-    let b = l in
-    weights-refused (lent) (ordered) c.first_off_weight-j.result (place_is)
-    (fit-counted (lent) l.walk-p.new.weights (tallied) (sym f.weights_fit.ensures ∙ f.if-weights_fit.false))
+    let H : Matrix = matrix_of c.args.shape c.args.list.now in
+    let w = c.in_default.ensures in
+    let v = c.walk.new.weights in
+    let counted = weighed H c.requires w in
+    let place = place-or-bound (first (out_weight H.gamma v) H.n) H.n c.first_off_weight.result c.first_off_weight.ensures ∙ counted-off H v counted in
+    weights-refused H (ordered H c.requires w) c.unwrap_or-j.result (c.unwrap_or-j.ensures ∙ place)
+    (fit-counted H v counted (sym c.weights_fit.ensures ∙ c.if-weights_fit.false))

@@ -19,4 +19,4 @@ pub returns : goal.returns
 returns c =
     let b = c in
     let H = matrix_of b.args.shape b.args.list.now in
-    sym (overlap-none H (sym c.pair_twice.ensures ∙ c.if-pair_twice.false))
+    overlap-none H (sym c.pair_twice.ensures ∙ c.if-pair_twice.false)

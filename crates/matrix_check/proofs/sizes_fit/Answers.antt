@@ -2,7 +2,9 @@
 use mathlib.Core.Bool.{and_assoc}
 use native.Mathlib.Nat.{mul-le-mul}
 use native.Mathlib.Omega.{arith}
-use Rattle.matrix.specs.Paper.Check.{sizes_fit}
+use mathlib.Core.Path.{◌≡◌}
+use Rattle.std.proofs.lemmas.Grind.{common_steps}
+use Rattle.matrix.specs.Paper.Check.{within, sizes_fit}
 use Rattle.matrix_check.proofs.sizes_fit.Goals as goal
 
 pub overflow_mul-ones_by_row : goal.overflow_mul-ones_by_row
@@ -18,4 +20,9 @@ overflow_mul-ones_by_column c =
 pub returns : goal.returns
 unfolding sizes_fit
 returns c =
-    simp (c.in_range.ensures, c.in_range-2.ensures, c.in_range-3.ensures, c.in_range-4.ensures, and_assoc)
+    let s = c.args.shape in
+    let n : c.contains.result ≡ within 2 s.n 1023 = grind (arith, common_steps) in
+    let m : c.contains-2.result ≡ within 1 s.m 1023 = grind (arith, common_steps) in
+    let rho : c.contains-3.result ≡ within 2 s.rho 32 = grind (arith, common_steps) in
+    let gamma : c.contains-4.result ≡ within 1 s.gamma 32 = grind (arith, common_steps) in
+    simp (n, m, rho, gamma, and_assoc)

@@ -1,56 +1,36 @@
-use mathlib.Core.Path.{◌≡◌, sym, ◌∙◌}
-use native.Mathlib.Nat.{le_antisymm}
+use Prim.Native.Nat.{◌<◌}
+use mathlib.Core.Path.{◌≡◌, sym}
 use native.Mathlib.Omega.{arith}
-use lib.ListN.{length, length-set}
-use Rattle.counting.proofs.Writes.{over_none, over-long, over-step}
+use lib.ListN.{length, take}
+use Rattle.std.proofs.lemmas.List.{length-take, length-take-le, get_or-take}
+use Rattle.counting.proofs.Writes.{over_none, over-step}
 use Rattle.matrix_index.specs.Filling.{start_sum}
 use Rattle.matrix_index.proofs.Starts.{sum_first, sum_more, sum_fits}
 use Rattle.matrix_index.proofs.put_starts.Goals as goal
 
 pub loop-j-init : goal.loop-j-init
-loop-j-init c = (omega arith, sum_first _, sym (over_none _ _))
-
-pub bounds-cells-j : goal.bounds-cells-j
-bounds-cells-j c =
-    let s = c in
-    let o = c.loop-j in
-    omega (arith, over-long o.j (start_sum s.args.weights.now) s.args.cells.now o.cells o.invariant.2 (omega arith))
+loop-j-init c = (sum_first _, sym (over_none _ _))
 
 pub overflow_add-sum : goal.overflow_add-sum
 overflow_add-sum c =
     let s = c in
     let o = c.loop-j in
-    omega (arith, s.requires.2, o.invariant.1, sum_fits s.args.weights.now o.j s.args.n (omega arith))
+    let l : o.j < s.args.n = omega (arith, length-take s.args.n s.args.weights.now) in
+    omega (arith, s.requires.2, o.invariant.0, sum_fits s.args.weights.now o.j s.args.n l, get_or-take s.args.n s.args.weights.now o.j 0 l)
 
 pub loop-j-preserved : goal.loop-j-preserved
 loop-j-preserved c =
     let s = c in
-    let o = c.loop-j in (
-      omega arith,
-      omega (arith, o.invariant.1, sum_more s.args.weights.now o.j),
-      over-step o.j (start_sum s.args.weights.now) s.args.cells.now o.cells o.invariant.2 o.sum (omega arith) o.invariant.1,
+    let o = c.loop-j in
+    let l : o.j < s.args.n = omega (arith, length-take s.args.n s.args.weights.now) in (
+      omega (arith, o.invariant.0, sum_more s.args.weights.now o.j, get_or-take s.args.n s.args.weights.now o.j 0 l),
+      over-step o.j (start_sum s.args.weights.now) s.args.cells.now o.cells o.invariant.1 o.sum (omega arith) o.invariant.0,
     )
-
-pub bounds-cells-n : goal.bounds-cells-n
-bounds-cells-n c =
-    let long : length c.loop-j.cells ≡ length c.args.cells.now = let s = c in
-    let o = c.loop-j in
-    over-long o.j (start_sum s.args.weights.now) s.args.cells.now o.cells o.invariant.2 (omega arith) in
-    omega (arith, long)
-
-pub shape_of-cells : goal.shape_of-cells
-shape_of-cells c =
-    let long : length c.loop-j.cells ≡ length c.args.cells.now = let s = c in
-    let o = c.loop-j in
-    over-long o.j (start_sum s.args.weights.now) s.args.cells.now o.cells o.invariant.2 (omega arith) in
-    let s = c in
-    let o = c.loop-j in
-    length-set o.cells s.args.n _ ∙ long
 
 pub returns : goal.returns
 returns c =
-    let done : c.loop-j.j ≡ c.args.n = le_antisymm c.loop-j.invariant.0 (omega arith) in
     let s = c in
     let o = c.loop-j in
-    over-step s.args.n (start_sum s.args.weights.now) s.args.cells.now o.cells (rw (done) at o.invariant.2) o.sum (omega arith)
-    (rw (done) at o.invariant.1)
+    let here : length (take s.args.n s.args.weights.now) ≡ s.args.n = length-take-le s.args.n s.args.weights.now (omega (arith, c.told-weights)) in
+    let done : o.j ≡ s.args.n = omega (arith, here) in
+    over-step s.args.n (start_sum s.args.weights.now) s.args.cells.now o.cells (rw done at o.invariant.1) o.sum (omega arith) (rw done at o.invariant.0)

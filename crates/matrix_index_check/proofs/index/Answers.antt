@@ -1,6 +1,7 @@
 -- `matrix_index_check::index`: the matrix check's refusal, else what follows on an accepted matrix.
-use mathlib.Core.Path.{refl, sym, ap, ◌∙◌}
-use Rattle.answers.specs.Paper.Enums.{verdict_of, refusal_number, refusal_place}
+use mathlib.Core.Path.{refl, sym}
+use Rattle.answers.specs.Paper.Enums.{refusal_number, refusal_place}
+use Rattle.answers.proofs.Verdicts.{handed_on}
 use Rattle.matrix.specs.Paper.Shapes.{matrix_of}
 use Rattle.matrix.proofs.PlainCheck.{accepted-is}
 use Rattle.matrix_index_check.proofs.Answers.{refused-matrix}
@@ -10,11 +11,12 @@ pub on_accepted-requires : goal.on_accepted-requires
 on_accepted-requires c =
     let k = c in
     let a = c.args in
-    accepted-is (matrix_of a.shape a.list.now) (sym k.check.ensures ∙ ap verdict_of c.in-Accepted.is)
+    accepted-is (matrix_of a.shape a.list.now) (sym c.in_ok-check.ensures)
 
-pub returns-in-Refused : goal.returns-in-Refused
-returns-in-Refused c =
+pub returns-in_err-check : goal.returns-in_err-check
+returns-in_err-check c =
     let k = c in
     let a = c.args in
-    refused-matrix (matrix_of a.shape a.list.now) a.index.now (refusal_number c.in-Refused.f) (refusal_place c.in-Refused.f) _
-    (sym k.check.ensures ∙ ap verdict_of c.in-Refused.is) refl
+    let e = handed_on _ _ c.from_residual.ensures.1 in
+    rw e (refused-matrix (matrix_of a.shape a.list.now) a.index.now (refusal_number c.in_err-check.field-0.0) (refusal_place c.in_err-check.field-0.0) _
+    (sym c.in_err-check.ensures) refl)

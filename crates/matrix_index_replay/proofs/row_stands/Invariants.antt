@@ -1,5 +1,5 @@
 -- `matrix_index_replay::row_stands`. The loop's invariant: the row stands at the places of its first `k` entries, whose cursors have moved on.
-use Prim.Native.Nat.{ℕ, ◌-◌, ◌≤◌, ◌<◌}
+use Prim.Native.Nat.{ℕ, ◌<◌}
 use Rattle.counting.specs.Places.{at}
 use Rattle.matrix.specs.Paper.Code.{matrix}
 use Rattle.matrix_index.specs.Filling.{Passed}
@@ -8,8 +8,5 @@ use Rattle.matrix_index_replay.proofs.row_stands.Given as goal
 
 abbrev pub invariant-loop-k : goal.invariant-loop-k
 invariant-loop-k l =
-    let H = matrix l.shape.n l.shape.m l.rho l.shape.gamma l.list in
-    (l.k ≤ l.rho) × Passed H (at l.index) l.i l.k l.initial.cursors l.cursors × ((q : ℕ) → q < l.k → Stands H l.index l.i q)
-
-abbrev pub decreases-loop-k : goal.decreases-loop-k
-decreases-loop-k l = l.rho - l.k
+    let H = matrix l.fn.shape.n l.fn.shape.m l.rho l.fn.shape.gamma l.list in
+    Passed H (at l.index) l.i l.k l.initial.cursors l.cursors × ((q : ℕ) → q < l.k → Stands H l.index l.i q)

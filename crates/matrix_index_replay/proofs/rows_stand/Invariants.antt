@@ -1,5 +1,5 @@
 -- `matrix_index_replay::rows_stand`. The loop's invariant: the rows before row `i` stand at their places, and the cursors stand behind them.
-use Prim.Native.Nat.{ℕ, ◌-◌, ◌≤◌, ◌<◌}
+use Prim.Native.Nat.{ℕ, ◌<◌}
 use Rattle.counting.specs.Places.{at}
 use Rattle.matrix.specs.Paper.Shapes.{matrix_of}
 use Rattle.matrix_index.specs.Filling.{Cursors}
@@ -8,7 +8,4 @@ use Rattle.matrix_index_replay.proofs.rows_stand.Given as goal
 
 abbrev pub invariant-loop-i : goal.invariant-loop-i
 invariant-loop-i l =
-    (l.i ≤ l.m) × Cursors (matrix_of l.shape l.list) (at l.index) l.i 0 l.cursors × ((r : ℕ) → r < l.i → RowStands (matrix_of l.shape l.list) l.index r)
-
-abbrev pub decreases-loop-i : goal.decreases-loop-i
-decreases-loop-i l = l.m - l.i
+    Cursors (matrix_of l.shape l.list) (at l.index) l.i 0 l.cursors × ((r : ℕ) → r < l.i → RowStands (matrix_of l.shape l.list) l.index r)

@@ -1,5 +1,4 @@
 use mathlib.Core.Path.{◌≡◌, refl, sym, ap, ◌∙◌}
-use Prim.Native.Nat.{ℕ}
 use native.Mathlib.Omega.{arith}
 use lib.ListN.{length}
 use Rattle.matrix.specs.Paper.Shapes.{matrix_of}
@@ -15,12 +14,7 @@ returns-then-i-part c =
 
 pub loop-k-init : goal.loop-k-init
 unfolding row_marked
-loop-k-init c = (omega arith, refl, refl)
-
-pub column-requires : goal.column-requires
-column-requires c =
-    let b = c in
-    (b.requires.0, b.requires.1, omega arith)
+loop-k-init c = record { long = refl; noted = refl }
 
 pub loop-k-preserved : goal.loop-k-preserved
 loop-k-preserved c =
@@ -28,19 +22,16 @@ loop-k-preserved c =
     let H = matrix_of a.shape a.list.now in
     let l = c.loop-k in
     let n = c.note in
-    let col = c.column in (
-      omega arith,
-      ap length n.ensures ∙ long-marked (bit_for col.result a.i) l.seen ∙ l.invariant.1,
-      row_more H a.i a.seen.now l.k col.result l.seen n.new.seen col.ensures.is l.invariant.2 n.ensures,
-    )
-
-pub shape_of-seen : goal.shape_of-seen
-shape_of-seen c = c.loop-k.invariant.1
+    let col = c.column in
+    record {
+      long = ap length n.ensures ∙ long-marked (bit_for col.result a.i) l.seen ∙ l.invariant.long;
+      noted = row_more H a.i a.seen.now l.k col.result l.seen n.new.seen col.ensures.is l.invariant.noted n.ensures;
+    }
 
 pub returns : goal.returns
 returns c =
     let a = c.args in
     let H = matrix_of a.shape a.list.now in
     let l = c.loop-k in
-    let e : l.k ≡ a.shape.rho = omega arith in
-    l.invariant.2 ∙ ap (λ (k : ℕ). row_marked H a.i k a.seen.now) e ∙ sym (noted_in H a.i a.seen.now a.part c.if-i-part.false)
+    let end : l.k ≡ a.shape.rho = omega arith in
+    rw end at l.invariant.noted ∙ sym (noted_in H a.i a.seen.now a.part c.if-i-part.false)

@@ -14,20 +14,12 @@ pub loop-i-init : goal.loop-i-init
 loop-i-init c =
     let b = c in
     let H = matrix_of b.args.shape b.args.list.now in
-    let first = b.args.part * 256 in (
-      omega arith,
-      refl,
-      marks-none H b.args.part first b.args.seen.now (omega arith) b.requires.3,
-      λ x l. meets-none H b.args.part x (omega arith),
-    )
-
-pub met_twice-requires : goal.met_twice-requires
-met_twice-requires c =
-    let b = c in
-    (b.requires.0, omega arith, omega (arith, b.requires.2, c.loop-i.invariant.1))
-
-pub shape_of-seen-then-met_twice : goal.shape_of-seen-then-met_twice
-shape_of-seen-then-met_twice c = c.loop-i.invariant.1
+    let first = b.args.part * 256 in
+    record {
+      long = refl;
+      marks = marks-none H b.args.part first b.args.seen.now (omega arith) b.requires.3;
+      none = λ x l. meets-none H b.args.part x (omega arith);
+    }
 
 pub returns-then-met_twice : goal.returns-then-met_twice
 returns-then-met_twice c =
@@ -36,14 +28,9 @@ returns-then-met_twice c =
     let l = c.loop-i in
     let here : meets_part H b.args.part l.i ≡ true =
     cases (meets_part H b.args.part l.i) (λ y. y) (λ n.
-    let once = clear-once H b.requires.0 b.args.part l.i l.seen (omega arith) l.invariant.2 n in
+    let once = clear-once H b.requires.0 b.args.part l.i l.seen (omega arith) l.invariant.marks n in
     absurd (never (sym c.if-met_twice.true ∙ c.met_twice.ensures.none once))) in
-    seen-some H b.args.part l.i b.args.seen.now l.seen (omega arith) l.invariant.1 l.invariant.2 l.invariant.3 here
-
-pub note_row-requires : goal.note_row-requires
-note_row-requires c =
-    let b = c in
-    (b.requires.0, omega arith, omega (arith, b.requires.2, c.loop-i.invariant.1))
+    seen-some H b.args.part l.i b.args.seen.now l.seen (omega arith) l.invariant.long l.invariant.marks l.invariant.none here
 
 pub loop-i-preserved : goal.loop-i-preserved
 loop-i-preserved c =
@@ -53,16 +40,13 @@ loop-i-preserved c =
     let l = c.loop-i in
     let n = c.note_row in
     let met = c.met_twice.ensures in
-    let room = bit-room H l.i l.seen b.requires.0 (omega arith) (omega (arith, b.requires.2, l.invariant.1)) in (
-      omega arith,
-      long-noted H l.i l.seen part n.new.seen n.ensures ∙ l.invariant.1,
-      marks-more H part l.i l.seen room l.invariant.2 n.new.seen n.ensures,
-      below_more (λ (x : ℕ). meets_part H part x ≡ false) l.i l.invariant.3
-          (once-clear H b.requires.0 part l.i l.seen (omega arith) l.invariant.2 (met.once c.if-met_twice.false)),
-    )
-
-pub shape_of-seen : goal.shape_of-seen
-shape_of-seen c = c.loop-i.invariant.1
+    let room = bit-room H l.i l.seen b.requires.0 (omega arith) (omega (arith, b.requires.2, l.invariant.long)) in
+    record {
+      long = long-noted H l.i l.seen part n.new.seen n.ensures ∙ l.invariant.long;
+      marks = marks-more H part l.i l.seen room l.invariant.marks n.new.seen n.ensures;
+      none = below_more (λ (x : ℕ). meets_part H part x ≡ false) l.i l.invariant.none
+          (once-clear H b.requires.0 part l.i l.seen (omega arith) l.invariant.marks (met.once c.if-met_twice.false));
+    }
 
 pub returns : goal.returns
 returns c =
@@ -70,4 +54,4 @@ returns c =
     let H = matrix_of b.args.shape b.args.list.now in
     let l = c.loop-i in
     let e : l.i ≡ b.args.shape.m = omega arith in
-    seen_none H b.args.part b.args.seen.now l.seen l.invariant.1 (rw e at l.invariant.2) (rw e at l.invariant.3)
+    seen_none H b.args.part b.args.seen.now l.seen l.invariant.long (rw e at l.invariant.marks) (rw e at l.invariant.none)

@@ -1,14 +1,11 @@
-use mathlib.Core.Path.{refl, ap, ◌∙◌}
-use Prim.Native.Nat.{ℕ}
-use native.Mathlib.Nat.{le_antisymm}
+use mathlib.Core.Path.{refl}
 use native.Mathlib.Omega.{arith}
-use Rattle.counting.specs.Paper.Sum.{sum_below}
 use Rattle.matrix_order.specs.Order.{descent}
 use Rattle.matrix_order.proofs.Order.{not_above, byte-bit, count-step, count_most, descent-le, first-counts}
 use Rattle.matrix_order.proofs.descents.Goals as goal
 
 pub loop-p-init : goal.loop-p-init
-loop-p-init c = (omega arith, c.requires.0, first-counts c.args.list.now)
+loop-p-init c = first-counts c.args.list.now
 
 pub overflow_add-count : goal.overflow_add-count
 overflow_add-count c =
@@ -21,10 +18,4 @@ unfolding descent
 loop-p-preserved c =
     let l = c.args.list.now in
     let o = c.loop-p in
-    (omega arith, omega arith, count-step (descent l) (not_above l o.p) o.p o.count refl o.invariant.2)
-
-pub returns : goal.returns
-returns c =
-    let l = c.args.list.now in
-    let o = c.loop-p in
-    o.invariant.2 ∙ ap (λ (k : ℕ). sum_below k (descent l)) (le_antisymm o.invariant.1 c.loop-p-test.false)
+    count-step (descent l) (not_above l o.p) o.p o.count refl o.invariant

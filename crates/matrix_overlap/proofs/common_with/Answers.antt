@@ -1,9 +1,8 @@
-use mathlib.Core.Path.{◌≡◌, refl, ap, ◌∙◌}
-use Prim.Native.Nat.{ℕ, ◌≤◌}
-use native.Mathlib.Numerals.{add-one}
+use mathlib.Core.Path.{◌≡◌, sym, ap, ◌∙◌}
+use Prim.Native.Nat.{ℕ}
 use native.Mathlib.Omega.{arith}
 use lib.ListN.{get_or}
-use Rattle.counting.specs.Paper.Sum.{sum_below}
+use Rattle.counting.proofs.Loops.{sum_start, sum_step}
 use Rattle.matrix.specs.Paper.Code.{entry}
 use Rattle.matrix.specs.Paper.Shapes.{matrix_of}
 use Rattle.matrix.specs.Tallies.{mark_at}
@@ -12,62 +11,26 @@ use Rattle.matrix.proofs.Tallies.{tally-le, tally-common}
 use Rattle.matrix_overlap.proofs.common_with.Goals as goal
 
 pub loop-k-init : goal.loop-k-init
-unfolding sum_below
-loop-k-init c = (omega arith, refl, omega arith)
-
-pub column-c-requires : goal.column-c-requires
-column-c-requires c =
-    let b = c in
-    (b.requires.0, b.requires.1, omega arith)
-
-pub offset_bounds-marks-c : goal.offset_bounds-marks-c
-offset_bounds-marks-c c = omega (arith, c.column-c.ensures.below)
-
-pub bounds-marks-c : goal.bounds-marks-c
-bounds-marks-c c = c.column-c.ensures.below
-
-pub overflow_cast-shared : goal.overflow_cast-shared
-overflow_cast-shared c =
-    let small : get_or c.args.marks.now c.column-c.result 0 ≤ 32 = let b = c in
-    let H = matrix_of b.args.shape b.args.list.now in
-    omega (
-      arith,
-      tally-le (entry H b.args.i) b.args.shape.rho b.args.marks.now b.requires.2 c.column-c.result c.column-c.ensures.below,
-      b.requires.0.sized.sizes.rho_most,
-    ) in
-    omega (arith, small)
-
-pub overflow_add-shared : goal.overflow_add-shared
-overflow_add-shared c =
-    let small : get_or c.args.marks.now c.column-c.result 0 ≤ 32 = let b = c in
-    let H = matrix_of b.args.shape b.args.list.now in
-    omega (
-      arith,
-      tally-le (entry H b.args.i) b.args.shape.rho b.args.marks.now b.requires.2 c.column-c.result c.column-c.ensures.below,
-      b.requires.0.sized.sizes.rho_most,
-    ) in
-    omega (arith, small)
+loop-k-init c = record { sum = sym (sum_start _); small = omega arith }
 
 pub loop-k-preserved : goal.loop-k-preserved
-unfolding sum_below mark_at
+unfolding mark_at
 loop-k-preserved c =
-    let small : get_or c.args.marks.now c.column-c.result 0 ≤ 32 = let b = c in
+    let b = c in
     let H = matrix_of b.args.shape b.args.list.now in
-    omega (
-      arith,
-      tally-le (entry H b.args.i) b.args.shape.rho b.args.marks.now b.requires.2 c.column-c.result c.column-c.ensures.below,
-      b.requires.0.sized.sizes.rho_most,
-    ) in
-    let a = c.args in
-    let l = c.loop-k in
-    let e = ap (λ (x : ℕ). get_or a.marks.now x 0) c.column-c.ensures.is in
-    (omega arith, rw add-one (omega (arith, e, l.invariant.1)), omega (arith, small, l.invariant.2))
+    let w = b.args.marks.now in
+    let col = c.column-c in
+    let small = tally-le (entry H b.args.i) b.args.shape.rho w b.requires.2 col.result col.ensures.below in
+    let here = ap (λ (x : ℕ). get_or w x 0) col.ensures.is in
+    record {
+      sum = omega (arith, here, c.loop-k.invariant.sum, sum_step c.loop-k.k (mark_at H b.args.later w));
+      small = omega (arith, small, b.requires.0.sized.sizes.rho_most, c.loop-k.invariant.small);
+    }
 
 pub returns : goal.returns
 returns c =
     let b = c in
     let H = matrix_of b.args.shape b.args.list.now in
-    let l = c.loop-k in
-    let e : l.k ≡ b.args.shape.rho = omega arith in
-    l.invariant.1 ∙ ap (λ (k : ℕ). sum_below k (mark_at H b.args.later b.args.marks.now)) e
+    let end : c.loop-k.k ≡ H.rho = omega arith in
+    rw end at c.loop-k.invariant.sum
     ∙ tally-common H b.args.i b.args.later b.args.marks.now b.requires.2 (λ k h. column-below b.requires.0 b.args.later k b.requires.1 h)

@@ -1,13 +1,8 @@
 -- `matrix_overlap::marks_of` meets its contract. The loop's invariant: the marks count the columns passed. Assumes nothing.
-use Prim.Native.Nat.{◌-◌, ◌≤◌}
 use Rattle.matrix.specs.Paper.Code.{entry}
 use Rattle.matrix.specs.Paper.Shapes.{matrix_of}
 use Rattle.matrix.specs.Tallies.{Tally}
 use Rattle.matrix_overlap.proofs.marks_of.Given as goal
 
 abbrev pub invariant-loop-k : goal.invariant-loop-k
-invariant-loop-k l =
-    (l.k ≤ l.rho) × Tally (entry (matrix_of l.shape l.list) l.i) l.k l.marks
-
-abbrev pub decreases-loop-k : goal.decreases-loop-k
-decreases-loop-k l = l.rho - l.k
+invariant-loop-k l = Tally (entry (matrix_of l.shape l.list) l.i) l.k l.marks

@@ -1,7 +1,9 @@
-use mathlib.Core.Path.{◌≡◌}
-use native.Mathlib.Nat.{le_antisymm}
+use Prim.Native.Nat.{◌*◌}
+use mathlib.Core.Path.{◌≡◌, sym}
 use native.Mathlib.Omega.{arith}
-use lib.ListN.{length}
+use lib.ListN.{drop, length}
+use mathlib.Core.List.{◌++◌}
+use Rattle.std.proofs.lemmas.List.{length-take-le}
 use Rattle.counting.specs.Paper.Lists.{listed, over}
 use Rattle.matrix.specs.Paper.Code.{Matrix}
 use Rattle.matrix.specs.Paper.Shapes.{matrix_of}
@@ -10,63 +12,38 @@ use Rattle.matrix_rows.specs.Filling.{blank}
 use Rattle.matrix_rows.proofs.Filling.{room-is, cleared-is, puts_none, puts-next, puts-room, puts-fit, rows-done}
 use Rattle.matrix_rows.proofs.build.Goals as goal
 
-pub overflow_cast-m : goal.overflow_cast-m
-overflow_cast-m c = omega (arith, c.requires.0.sizes.m_most)
+pub slice_bounds-fill-end : goal.slice_bounds-fill-end
+slice_bounds-fill-end c = omega (arith, room-is (matrix_of c.args.shape c.args.list.now) c.requires.1)
 
-pub overflow_mul-m : goal.overflow_mul-m
-overflow_mul-m c = omega (arith, c.requires.0.sizes.m_most)
-
-pub clear-requires : goal.clear-requires
-clear-requires c =
-    let lent : Matrix = matrix_of c.args.shape c.args.list.now in
-    let s = c in
-    (omega (arith, s.requires.0.sizes.m_most), omega (arith, room-is (lent) s.requires.1))
+pub slice_bounds-fill-end-2 : goal.slice_bounds-fill-end-2
+slice_bounds-fill-end-2 c = sym (length-take-le _ _ (omega (arith, room-is (matrix_of c.args.shape c.args.list.now) c.requires.1)))
 
 pub loop-i-init : goal.loop-i-init
-loop-i-init c =
-    let lent : Matrix = matrix_of c.args.shape c.args.list.now in
-    (omega arith, puts_none (lent) _)
+loop-i-init c = puts_none (matrix_of c.args.shape c.args.list.now) _
 
 pub place_row-requires : goal.place_row-requires
 place_row-requires c =
     let lent : Matrix = matrix_of c.args.shape c.args.list.now in
-    let cleared : let s = c in c.clear.new.rows ≡ over (listed (rows_size (lent)) blank) s.args.rows.now = let s = c in
-    cleared-is (lent) s.args.rows.now _ c.clear.ensures in
-    let room : length c.loop-i.rows ≡ length c.args.rows.now = let s = c in
-    puts-room (lent) s.requires.0 s.args.rows.now _ s.requires.1 (cleared) c.loop-i.i c.loop-i.rows c.loop-i.invariant.1 in
     let s = c in
-    let l = c.loop-i in (
+    let l = c.loop-i in
+    let cleared : c.fill.new.self ++ drop (16 * c.args.shape.m) s.args.rows.now ≡ over (listed (rows_size lent) blank) s.args.rows.now =
+    cleared-is lent s.args.rows.now _ (room-is lent s.requires.1) (c.fill.ensures.after (λ y e. e)) in
+    let room : length l.rows ≡ length s.args.rows.now = puts-room lent s.requires.0 s.args.rows.now _ s.requires.1 cleared l.i l.rows l.invariant in (
       s.requires.0,
       omega arith,
       omega (arith, s.requires.1, room),
-      puts-fit (lent) s.requires.0 s.args.rows.now _ s.requires.1 (cleared) l.i l.rows (omega arith) l.invariant.1,
+      puts-fit lent s.requires.0 s.args.rows.now _ s.requires.1 cleared l.i l.rows (omega arith) l.invariant,
     )
 
-pub overflow_add-i : goal.overflow_add-i
-overflow_add-i c = omega (arith, c.requires.0.sizes.m_most)
-
 pub loop-i-preserved : goal.loop-i-preserved
-loop-i-preserved c =
-    let lent : Matrix = matrix_of c.args.shape c.args.list.now in
-    let s = c in
-    let l = c.loop-i in
-    (omega arith, puts-next (lent) l.i _ l.rows _ l.invariant.1 c.place_row.ensures)
-
-pub shape_of-rows : goal.shape_of-rows
-shape_of-rows c =
-    let lent : Matrix = matrix_of c.args.shape c.args.list.now in
-    let cleared : let s = c in c.clear.new.rows ≡ over (listed (rows_size (lent)) blank) s.args.rows.now = let s = c in
-    cleared-is (lent) s.args.rows.now _ c.clear.ensures in
-    let room : length c.loop-i.rows ≡ length c.args.rows.now = let s = c in
-    puts-room (lent) s.requires.0 s.args.rows.now _ s.requires.1 (cleared) c.loop-i.i c.loop-i.rows c.loop-i.invariant.1 in
-    room
+loop-i-preserved c = puts-next (matrix_of c.args.shape c.args.list.now) c.loop-i.i _ c.loop-i.rows _ c.loop-i.invariant c.place_row.ensures
 
 pub returns : goal.returns
 returns c =
     let lent : Matrix = matrix_of c.args.shape c.args.list.now in
-    let cleared : let s = c in c.clear.new.rows ≡ over (listed (rows_size (lent)) blank) s.args.rows.now = let s = c in
-    cleared-is (lent) s.args.rows.now _ c.clear.ensures in
     let s = c in
     let l = c.loop-i in
-    rows-done (lent) s.requires.0 s.args.rows.now _ s.requires.1 (cleared) l.rows
-    (rw (le_antisymm l.invariant.0 (omega arith)) at l.invariant.1)
+    let cleared : c.fill.new.self ++ drop (16 * c.args.shape.m) s.args.rows.now ≡ over (listed (rows_size lent) blank) s.args.rows.now =
+    cleared-is lent s.args.rows.now _ (room-is lent s.requires.1) (c.fill.ensures.after (λ y e. e)) in
+    let e : l.i ≡ s.args.shape.m = omega arith in
+    rows-done lent s.requires.0 s.args.rows.now _ s.requires.1 cleared l.rows (rw e at l.invariant)

@@ -1,23 +1,8 @@
 -- `one_step_core::hand_back`: packed, and counted against what was received. Assumes nothing.
-use mathlib.Core.Path.{sym, ◌∙◌}
-use native.Mathlib.Omega.{arith}
 use Rattle.answers.specs.Paper.Enums.{report_of}
 use Rattle.counting.specs.Places.{at}
-use Rattle.one_step_core.proofs.Results.{written-long, handed-back}
+use Rattle.one_step_core.proofs.Results.{handed-back}
 use Rattle.one_step_core.proofs.hand_back.Goals as goal
-
-pub slice_bounds-differing-end-2 : goal.slice_bounds-differing-end-2
-slice_bounds-differing-end-2 c =
-    let s = c in
-    let p = c.pack_into in
-    sym (written-long s.args.n (at s.args.bits.now) s.args.word.now p.new.w p.ensures)
-
-pub differing-changed-requires : goal.differing-changed-requires
-differing-changed-requires c =
-    let s = c in
-    let p = c.pack_into in
-    let e = written-long s.args.n (at s.args.bits.now) s.args.word.now p.new.w p.ensures in
-    (e ∙ sym s.requires.long, omega (arith, e, s.requires.few))
 
 pub returns : goal.returns
 returns c =

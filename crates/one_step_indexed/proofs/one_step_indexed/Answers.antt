@@ -1,6 +1,7 @@
 -- `one_step_indexed::one_step_indexed` meets its contract: the refusal of matrix or index, else what follows with the matrix's own index. Assumes nothing.
-use mathlib.Core.Path.{◌≡◌, refl, sym, ap, ◌∙◌}
-use Rattle.answers.specs.Paper.Enums.{verdict_of, refusal_number, refusal_place, said_of}
+use mathlib.Core.Path.{◌≡◌, refl, sym}
+use Rattle.answers.specs.Paper.Enums.{refusal_number, refusal_place, said_of}
+use Rattle.answers.proofs.Verdicts.{handed_on}
 use Rattle.matrix.specs.Paper.Code.{Matrix}
 use Rattle.matrix.specs.Paper.Shapes.{matrix_of}
 use Rattle.matrix.specs.Paper.PlainCheck.{Accepted}
@@ -15,16 +16,16 @@ on_own-requires c =
     let lent : Matrix = matrix_of c.args.shape c.args.list.now in
     let both : let s = c in Accepted (lent) × (s.args.index.now ≡ index_of (lent)) = let k = c in
     let s = c in
-    let y = both-accepted (lent) s.args.index.now (sym k.check_indexed.ensures ∙ ap verdict_of c.in-Accepted.is) in
+    let y = both-accepted (lent) s.args.index.now (sym c.in_ok-check_indexed.ensures) in
     (accepted-is (lent) y.0, y.1) in
     both
 
-pub returns-in-Accepted : goal.returns-in-Accepted
-returns-in-Accepted c =
+pub returns : goal.returns
+returns c =
     let lent : Matrix = matrix_of c.args.shape c.args.list.now in
     let both : let s = c in Accepted (lent) × (s.args.index.now ≡ index_of (lent)) = let k = c in
     let s = c in
-    let y = both-accepted (lent) s.args.index.now (sym k.check_indexed.ensures ∙ ap verdict_of c.in-Accepted.is) in
+    let y = both-accepted (lent) s.args.index.now (sym c.in_ok-check_indexed.ensures) in
     (accepted-is (lent) y.0, y.1) in
     let r = c in
     let t = r in
@@ -35,11 +36,12 @@ returns-in-Accepted c =
       alike = λ own. e;
     }
 
-pub returns-in-Refused : goal.returns-in-Refused
-returns-in-Refused c =
+pub returns-in_err-check_indexed : goal.returns-in_err-check_indexed
+returns-in_err-check_indexed c =
     let lent : Matrix = matrix_of c.args.shape c.args.list.now in
     let k = c in
     let s = c in
-    let e = refused-either (lent) s.args.index.now s.args.received.now s.args.word.now (refusal_number c.in-Refused.f) (refusal_place c.in-Refused.f) _
-    (sym k.check_indexed.ensures ∙ ap verdict_of c.in-Refused.is) refl in
-    record { answer = e; alike = λ own. answered-alike (lent) s.args.index.now s.args.received.now s.args.word.now s.args.word.now _ own e }
+    let e = refused-either (lent) s.args.index.now s.args.received.now s.args.word.now (refusal_number c.in_err-check_indexed.field-0.0) (refusal_place c.in_err-check_indexed.field-0.0) _
+    (sym c.in_err-check_indexed.ensures) refl in
+    let told = handed_on _ _ c.from_residual.ensures.1 in
+    rw told (record { answer = e; alike = λ own. answered-alike (lent) s.args.index.now s.args.received.now s.args.word.now s.args.word.now _ own e })

@@ -6,16 +6,8 @@ use Rattle.packed_word.specs.Paper.Packed.{bit_at}
 use Rattle.packed_word.proofs.Distances.{distance-le}
 use Rattle.packed_distance.proofs.differing.Goals as goal
 
-pub places_apart-requires : goal.places_apart-requires
-places_apart-requires c =
-    let s = c in
-    (s.requires.0, omega (arith, s.requires.1))
-
 pub overflow_cast-result : goal.overflow_cast-result
 overflow_cast-result c =
     let s = c in
     let a = s.args in
     omega (arith, s.requires.1, c.places_apart.ensures, distance-le (8 * length a.a.now) (bit_at a.a.now) (bit_at a.b.now))
-
-pub returns : goal.returns
-returns c = c.places_apart.ensures

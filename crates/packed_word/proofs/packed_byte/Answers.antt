@@ -7,7 +7,7 @@ use Rattle.packed_word.proofs.Stores.{eight, binary_of, binary-none, binary-more
 use Rattle.packed_word.proofs.packed_byte.Goals as goal
 
 pub loop-i-init : goal.loop-i-init
-loop-i-init c = (omega arith, binary-none (eight c.args.n (at c.args.bits.now) c.args.q))
+loop-i-init c = binary-none (eight c.args.n (at c.args.bits.now) c.args.q)
 
 pub with_bit-b-requires : goal.with_bit-b-requires
 with_bit-b-requires c =
@@ -22,14 +22,12 @@ pub loop-i-preserved : goal.loop-i-preserved
 loop-i-preserved c =
     let a = c.args in
     let l = c.loop-i in
-    let b = c.bit_or_zero in (
-      omega arith,
-      binary-more (eight a.n (at a.bits.now) a.q) l.i l.b b.result c.with_bit-b.result l.invariant.1 b.ensures c.with_bit-b.ensures,
-    )
+    let b = c.bit_or_zero in
+    binary-more (eight a.n (at a.bits.now) a.q) l.i l.b b.result c.with_bit-b.result l.invariant b.ensures c.with_bit-b.ensures
 
 pub returns : goal.returns
 returns c =
     let a = c.args in
     let l = c.loop-i in
     let e : l.i ≡ 8 = omega arith in
-    l.invariant.1 ∙ ap (binary_of (eight a.n (at a.bits.now) a.q)) e ∙ binary-all a.n (at a.bits.now) a.q
+    l.invariant ∙ ap (binary_of (eight a.n (at a.bits.now) a.q)) e ∙ binary-all a.n (at a.bits.now) a.q

@@ -1,12 +1,8 @@
 -- `packed_word::packed_byte` meets its contract. The loop's invariant: b is the number with the byte's first i bits, the highest first. Assumes nothing.
 use mathlib.Core.Path.{◌≡◌}
-use Prim.Native.Nat.{◌-◌, ◌≤◌}
 use Rattle.counting.specs.Places.{at}
 use Rattle.packed_word.proofs.Stores.{eight, binary_of}
 use Rattle.packed_word.proofs.packed_byte.Given as goal
 
 abbrev pub invariant-loop-i : goal.invariant-loop-i
-invariant-loop-i l = (l.i ≤ 8) × (l.b ≡ binary_of (eight l.n (at l.bits) l.q) l.i)
-
-abbrev pub decreases-loop-i : goal.decreases-loop-i
-decreases-loop-i l = 8 - l.i
+invariant-loop-i l = l.b ≡ binary_of (eight l.n (at l.bits) l.q) l.i

@@ -27,8 +27,8 @@ slice_bounds-take_samples-end c =
     let s = c in
     sym (length-take-le 2050 s.args.tables.now (front))
 
-pub take_samples-place-requires : goal.take_samples-place-requires
-take_samples-place-requires c =
+pub take_samples-requires : goal.take_samples-requires
+take_samples-requires c =
     let lent : Matrix = matrix_of c.args.shape c.args.list.now in
     let by : Setting = setting_of c.args.setting in
     let s = c in (
@@ -44,10 +44,8 @@ take_samples-place-requires c =
       tables-table (lent) (by) s.args.tables.now s.requires.1,
     )
 
-pub returns-then-place-n : goal.returns-then-place-n
-returns-then-place-n c =
-    let s = c in
-    block_refused s.requires.0 c.take_samples-place.ensures c.if-place-n.true
+pub returns-in-Some : goal.returns-in-Some
+returns-in-Some c = block_refused c.requires.0 c.in-Some.ensures.0 c.in-Some.ensures.1
 
 pub slice_bounds-run-count : goal.slice_bounds-run-count
 slice_bounds-run-count c =
@@ -68,23 +66,22 @@ run-stop-requires c =
     let lent : Matrix = matrix_of c.args.shape c.args.list.now in
     let by : Setting = setting_of c.args.setting in
     let s = c in
-    let t = c.take_samples-place in
     let x = s.args.tables.now in
     let rest : length (drop 2050 x) ≤ length x - 2050 = omega (arith, length-drop 2050 x) in (
-      block-lent s.requires.0 t.ensures c.if-place-n.false refl refl c.largest_of-middle.ensures,
+      block-lent s.requires.0 c.in_default.ensures.0 (omega arith) refl refl c.largest_of-middle.ensures,
       take_all (length x - 2050) (drop 2050 x) rest ∙ tables-sets (lent) (by) x s.requires.1,
     )
 
 pub pack_into-requires : goal.pack_into-requires
 pack_into-requires c =
-    let bits : (j : ℕ) → j < c.args.shape.n → at c.run-stop.new.bits j < 2 = block-bits c.requires.0 c.take_samples-place.ensures c.if-place-n.false refl refl
+    let bits : (j : ℕ) → j < c.args.shape.n → at c.run-stop.new.bits j < 2 = block-bits c.requires.0 c.in_default.ensures.0 (omega arith) refl refl
     c.largest_of-middle.ensures c.run-stop.ensures in
     let r = c in
     (c.requires.0.decodable.matrix.sizes.n_most, c.requires.0.room, bits)
 
 pub turned-changed-requires : goal.turned-changed-requires
 turned-changed-requires c =
-    let bits : (j : ℕ) → j < c.args.shape.n → at c.run-stop.new.bits j < 2 = block-bits c.requires.0 c.take_samples-place.ensures c.if-place-n.false refl refl
+    let bits : (j : ℕ) → j < c.args.shape.n → at c.run-stop.new.bits j < 2 = block-bits c.requires.0 c.in_default.ensures.0 (omega arith) refl refl
     c.largest_of-middle.ensures c.run-stop.ensures in
     let r = c in
     (c.requires.0.decodable.matrix.sizes.n_most, bits)
@@ -92,6 +89,6 @@ turned-changed-requires c =
 pub returns : goal.returns
 returns c =
     let r = c in
-    block-answered c.requires.0 r.take_samples-place.ensures r.if-place-n.false refl refl
+    block-answered c.requires.0 c.in_default.ensures.0 (omega arith) refl refl
     r.largest_of-middle.ensures r.run-stop.ensures
     c.pack_into.ensures c.turned-changed.ensures c.ended.ensures

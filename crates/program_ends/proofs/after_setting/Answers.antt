@@ -47,9 +47,9 @@ slice_bounds-build-end c =
 pub build-requires : goal.build-requires
 build-requires c =
     let lent : ℕ → Matrix = λ k. matrix_of c.args.shape (take k c.args.list.now) in
-    let accepted : Decodable (lent c.entries-count.result) (setting_of c.in-Ready.setting) = let e = c in
+    let accepted : Decodable (lent c.entries-count.result) (setting_of c.in-Ok.setting) = let e = c in
     decodable (lent e.entries-count.result) (setting_in c.args.bytes.now) _ c.begin-opened.ensures
-    (ap opened_of c.in-Ready.is) in
+    (ap opened_of c.in-Ok.is) in
     let e = c in
     let a = accepted in
     (a.matrix, a.setting, omega (arith, tables-short (lent e.entries-count.result) a.matrix, c.requires.tables))
@@ -57,13 +57,13 @@ build-requires c =
 pub at_blocks-requires : goal.at_blocks-requires
 at_blocks-requires c =
     let lent : ℕ → Matrix = λ k. matrix_of c.args.shape (take k c.args.list.now) in
-    let accepted : Decodable (lent c.entries-count.result) (setting_of c.in-Ready.setting) = let e = c in
+    let accepted : Decodable (lent c.entries-count.result) (setting_of c.in-Ok.setting) = let e = c in
     decodable (lent e.entries-count.result) (setting_in c.args.bytes.now) _ c.begin-opened.ensures
-    (ap opened_of c.in-Ready.is) in
+    (ap opened_of c.in-Ok.is) in
     let a = (accepted).matrix in (a.sizes.n_least, a.sizes.n_most)
 
-pub returns-in-Ready : goal.returns-in-Ready
-returns-in-Ready c =
+pub returns-in-Ok : goal.returns-in-Ok
+returns-in-Ok c =
     let lent : ℕ → Matrix = λ k. matrix_of c.args.shape (take k c.args.list.now) in
     let whole : Matrix = lent (c.args.shape.m * c.args.shape.rho) in
     let begins : Opening = let S = setting_in c.args.bytes.now in opening (opening_verdict (whole) S) S in
@@ -77,7 +77,7 @@ returns-in-Ready c =
     let x = s.args.tables.now in
     let H = whole in
     let bs = s.args.bytes.now in
-    let opens = opened-reply H (found) (ap opened_of o.in-Ready.is) ∙ setting-whole H bs (omega arith) in (
+    let opens = opened-reply H (found) (ap opened_of o.in-Ok.is) ∙ setting-whole H bs (omega arith) in (
       record {
         reply = replied-as opens
             (record {
@@ -88,12 +88,12 @@ returns-in-Ready c =
             });
         rest = refl;
       },
-      c.build.ensures ∙ ap (λ (k : ℕ). over (tables_of (lent k) (setting_of o.in-Ready.setting)) x) e.entries-count.ensures
+      c.build.ensures ∙ ap (λ (k : ℕ). over (tables_of (lent k) (setting_of o.in-Ok.setting)) x) e.entries-count.ensures
           ∙ opened-tables H bs x opens,
     )
 
-pub returns-in-Refused : goal.returns-in-Refused
-returns-in-Refused c =
+pub returns-in-Err : goal.returns-in-Err
+returns-in-Err c =
     let lent : ℕ → Matrix = λ k. matrix_of c.args.shape (take k c.args.list.now) in
     let whole : Matrix = lent (c.args.shape.m * c.args.shape.rho) in
     let begins : Opening = let S = setting_in c.args.bytes.now in opening (opening_verdict (whole) S) S in
@@ -105,8 +105,8 @@ returns-in-Refused c =
     let s = c in
     let H = whole in
     let bs = s.args.bytes.now in
-    let opens = opened-reply H (found) (ap opened_of o.in-Refused.is) ∙ setting-whole H bs (omega arith) in (
-      replied-over p.put_refused-end.ensures (omega (arith, s.requires.room)) c.run_over-in-Refused.ensures.1
-          (ap ends (text-alone p.put_refused-end.ensures (omega (arith, s.requires.room))) ∙ opens) (c.run_over-in-Refused.ensures.0 s.args.list.now),
+    let opens = opened-reply H (found) (ap opened_of o.in-Err.is) ∙ setting-whole H bs (omega arith) in (
+      replied-over p.put_refused-end.ensures (omega (arith, s.requires.room)) c.run_over-in-Err.ensures.1
+          (ap ends (text-alone p.put_refused-end.ensures (omega (arith, s.requires.room))) ∙ opens) (c.run_over-in-Err.ensures.0 s.args.list.now),
       opened-tables H bs s.args.tables.now opens,
     )

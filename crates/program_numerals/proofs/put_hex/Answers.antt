@@ -1,37 +1,25 @@
-use mathlib.Core.Path.{sym, ap}
-use Prim.Native.Nat.{◌<◌}
+use mathlib.Core.Path.{sym}
 use native.Mathlib.Numerals.{add-one}
 use native.Mathlib.Omega.{arith}
-use lib.ListN.{length, take}
-use lib.Seq.{take-suc, take_all, length-take-le}
+use lib.ListN.{take}
+use lib.Seq.{take-suc, length-take-le}
 use Rattle.program_numerals.proofs.Puts.{put-none, put_then, put_as, put-length}
 use Rattle.program_numerals.specs.Paper.Numerals.{hex}
 use Rattle.program_numerals.proofs.Numerals.{hex-append, length-hex}
 use Rattle.program_numerals.proofs.put_hex.Goals as goal
 
-pub loop-i-init : goal.loop-i-init
+pub loop-b-init : goal.loop-b-init
 unfolding hex
-loop-i-init c = (omega arith, put-none _ _)
+loop-b-init c = put-none _ _
 
 pub put_pair-end-requires : goal.put_pair-end-requires
 put_pair-end-requires c =
-    let l = c in
-    let word = l.args.word.now in
-    let p = l.loop-i.invariant.1 in
-    omega (arith, p.ends, put-length p, length-hex word, length-hex (take l.loop-i.i word), length-take-le l.loop-i.i word l.loop-i.invariant.0)
+    let word = c.args.word.now in
+    let l = c.loop-b in
+    omega (arith, l.invariant.ends, put-length l.invariant, length-hex word, length-hex (take l.b-index word), length-take-le l.b-index word (omega arith))
 
-pub loop-i-preserved : goal.loop-i-preserved
-loop-i-preserved c =
-    let l = c in
-    let word = l.args.word.now in
-    let h : l.loop-i.i < length word = c.loop-i-test.true in
-    (omega arith, put_as (sym (rw (add-one, take-suc word l.loop-i.i 0, hex-append))) (put_then l.loop-i.invariant.1 c.put_pair-end.ensures))
-
-pub shape_of-out : goal.shape_of-out
-shape_of-out c = put-length c.loop-i.invariant.1
-
-pub returns : goal.returns
-returns c =
-    let l = c in
-    let word = l.args.word.now in
-    put_as (ap hex (take_all l.loop-i.i word (omega arith))) l.loop-i.invariant.1
+pub loop-b-preserved : goal.loop-b-preserved
+loop-b-preserved c =
+    let word = c.args.word.now in
+    let l = c.loop-b in
+    put_as (sym (rw (add-one, take-suc word l.b-index 0 (omega arith), hex-append))) (put_then l.invariant c.put_pair-end.ensures)

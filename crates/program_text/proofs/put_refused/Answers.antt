@@ -5,9 +5,6 @@ use Rattle.program_text.specs.Paper.Output.{line, refused_text}
 use Rattle.program_numerals.proofs.Puts.{put_then, put_as}
 use Rattle.program_text.proofs.put_refused.Goals as goal
 
-pub put_number-requires : goal.put_number-requires
-put_number-requires c = omega (arith, c.put_text-at.ensures.ends)
-
 pub returns : goal.returns
 unfolding refused_text line
 returns c =

@@ -8,8 +8,7 @@ use Rattle.program_turns.proofs.at_once.Goals as goal
 
 pub returns : goal.returns
 returns c =
-    let s = c in
-    let n = s.args.n in
-    let i = s.args.number in
-    let e = c.least.ensures ∙ ap (λ (k : ℕ). min k (65535 - i)) c.least-most.ensures in
-    subst (AtOnce n i) (sym e) (at-once n i s.requires.0 s.requires.1 (omega arith))
+    let n = c.args.n in
+    let i = c.args.number in
+    let e = c.min-2.ensures ∙ ap (λ (k : ℕ). min k (65535 - i)) c.min.ensures in
+    subst (AtOnce n i) (sym e) (at-once n i c.requires.0 c.requires.1 (omega arith))

@@ -13,32 +13,30 @@ use Rattle.quantiser.proofs.Buffers.{stored-none, stored_more}
 use Rattle.quantiser.proofs.fill_by.Goals as goal
 
 pub loop-j-init : goal.loop-j-init
-loop-j-init c = (omega arith, stored-none)
+loop-j-init c = stored-none
 
-pub level_by-v-requires : goal.level_by-v-requires
-level_by-v-requires c =
+pub level_by-requires : goal.level_by-requires
+level_by-requires c =
     let z = c in
     let room = z.requires.roomy in
-    (z.requires.narrow, all-finite z.args.samples.now room.each_finite c.loop-j.j c.loop-j-test.true)
+    (z.requires.narrow, all-finite z.args.samples.now room.each_finite c.loop-j.j (omega arith))
 
 pub loop-j-preserved : goal.loop-j-preserved
 unfolding level_at hard_bit
 loop-j-preserved c =
     let l = c in
     let z = l in
-    let room = z.requires.roomy in (
-      omega arith,
-      stored_more (omega (arith, room.room)) (omega (arith, room.cells))
-          (to_z-of_z cell c.level_by-v.result (sfits_of c.level_by-v.type_inv) ∙ c.level_by-v.ensures)
-          c.hard_bit.ensures
-          l.loop-j.invariant.1,
-    )
+    let room = z.requires.roomy in
+    stored_more (omega (arith, room.room)) (omega (arith, room.cells))
+    (to_z-of_z cell c.level_by.result (sfits_of c.level_by.type_inv) ∙ c.level_by.ensures)
+    c.hard_bit.ensures
+    l.loop-j.invariant
 
 pub shape_of-levels : goal.shape_of-levels
-shape_of-levels c = c.loop-j.invariant.1.broad
+shape_of-levels c = c.loop-j.invariant.broad
 
 pub shape_of-cells : goal.shape_of-cells
-shape_of-cells c = c.loop-j.invariant.1.long
+shape_of-cells c = c.loop-j.invariant.long
 
 pub returns : goal.returns
 returns c =
@@ -50,4 +48,4 @@ returns c =
     subst
     (λ (k : ℕ). Stored (level_at s.gain s.top (s.sig * 2 ^ s.shift) xs) (hard_bit xs) k
     z.args.levels.now l.levels z.args.cells.now l.cells)
-    n l.invariant.1
+    n l.invariant

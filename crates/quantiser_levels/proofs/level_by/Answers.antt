@@ -16,4 +16,4 @@ returns c =
     to_z-of_z cell c.with_sign.result (sfits_of c.with_sign.type_inv)
     ∙ c.with_sign.ensures
     ∙ ap₂ signed y.sign
-    (c.magnitude_of-n.ensures ∙ sym (ap (λ (n : ℕ). min s.top (nearest_whole (s.gain * n) (s.sig * 2 ^ s.shift))) y.value))
+    (c.magnitude_of.ensures ∙ sym (ap (λ (n : ℕ). min s.top (nearest_whole (s.gain * n) (s.sig * 2 ^ s.shift))) y.value))

@@ -24,8 +24,8 @@ gain-in : (s : Step) (t : ℕ) → 0 < t → t ≤ most_level → (0 < gain_by s
 gain-in (Level d) t h l = omega arith
 gain-in (FullScale f) t h l = (h, l)
 
-pub largest_of-top-requires : goal.largest_of-top-requires
-largest_of-top-requires c =
+pub largest_of-requires : goal.largest_of-requires
+largest_of-requires c =
     let range : InRange (setting_of c.args.setting) = fits-reads (setting_of c.args.setting) c.requires in
     ((range).least, (range).most)
 
@@ -41,8 +41,8 @@ returns c =
     let step_in : step_fits c.step_of.result ≡ true = ap step_fits c.step_of.ensures ∙ (range).step in
     let z = c in
     let s = z.args.setting in
-    let t = c.largest_of-top.ensures in
-    let g = c.gain_by-gain.ensures ∙ ap (gain_by s.step) t in
+    let t = c.from-top.ensures ∙ c.largest_of.ensures in
+    let g = c.gain_by.ensures ∙ ap (gain_by s.step) t in
     let d = c.take_apart-d.ensures in
     let few = gain-in s.step (largest s.bits) (largest-some s.bits (range).least) (largest-most s.bits (range).most) in
     record {

@@ -1,6 +1,7 @@
 -- `session_opening::ask_open` meets its contract: the matrix is asked first, then what is lent with it. Assumes nothing.
-use mathlib.Core.Path.{sym, ap, ◌∙◌}
-use Rattle.answers.specs.Paper.Enums.{verdict_of, refusal_number, refusal_place}
+use mathlib.Core.Path.{sym}
+use Rattle.answers.specs.Paper.Enums.{refusal_number, refusal_place}
+use Rattle.answers.proofs.Verdicts.{handed_on}
 use Rattle.matrix.specs.Paper.Code.{Matrix}
 use Rattle.matrix.specs.Paper.Shapes.{matrix_of}
 use Rattle.matrix.proofs.PlainCheck.{accepted-is}
@@ -12,21 +13,22 @@ pub ask_samples-requires : goal.ask_samples-requires
 ask_samples-requires c =
     let lent_matrix : Matrix = matrix_of c.args.shape c.args.list.now in
     let k = c in
-    (accepted-is (lent_matrix) (sym k.check-asked.ensures ∙ ap verdict_of c.in-Accepted.is)).sizes.n_most
+    (accepted-is (lent_matrix) (sym c.in_ok-check.ensures)).sizes.n_most
 
-pub returns-in-Accepted : goal.returns-in-Accepted
-returns-in-Accepted c =
+pub returns : goal.returns
+returns c =
     let lent_matrix : Matrix = matrix_of c.args.shape c.args.list.now in
     let k = c in
     let s = c in
     says-samples (lent_matrix) (setting_of s.args.setting) s.args.samples.now s.args.bytes s.args.room _
-    (sym k.check-asked.ensures ∙ ap verdict_of c.in-Accepted.is) c.ask_samples.ensures
+    (sym c.in_ok-check.ensures) c.ask_samples.ensures
 
-pub returns-in-Refused : goal.returns-in-Refused
-returns-in-Refused c =
+pub returns-in_err-check : goal.returns-in_err-check
+returns-in_err-check c =
     let lent_matrix : Matrix = matrix_of c.args.shape c.args.list.now in
     let k = c in
     let s = c in
-    says-open-matrix (lent_matrix) (setting_of s.args.setting) s.args.samples.now s.args.bytes s.args.room (refusal_number c.in-Refused.f)
-    (refusal_place c.in-Refused.f)
-    (sym k.check-asked.ensures ∙ ap verdict_of c.in-Refused.is)
+    let e = handed_on _ _ c.from_residual.ensures.1 in
+    rw e (says-open-matrix (lent_matrix) (setting_of s.args.setting) s.args.samples.now s.args.bytes s.args.room (refusal_number c.in_err-check.field-0.0)
+    (refusal_place c.in_err-check.field-0.0)
+    (sym c.in_err-check.ensures))

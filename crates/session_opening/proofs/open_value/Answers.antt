@@ -22,11 +22,11 @@ open_accepted-requires c =
     let k = t in
     let s = c in
     accepted-open (lent_matrix) (setting_of s.args.setting) s.args.samples.now (lent blank s.args.word.now s.args.levels.now)
-    (verdict ∙ ap verdict_of t.in-Accepted.is)
+    (verdict ∙ ap verdict_of t.in-Ok.is)
 
-pub returns-in-Accepted : goal.returns-in-Accepted
+pub returns-in-Ok : goal.returns-in-Ok
 unfolding open_verdict
-returns-in-Accepted c =
+returns-in-Ok c =
     let lent_matrix : Matrix = matrix_of c.args.shape c.args.list.now in
     let held : Held = held_of c.args.session c.args.word.now c.args.levels.now in
     let verdict : open_verdict (lent_matrix) (setting_of c.args.setting) c.args.samples.now (held) ≡ verdict_of c.ask_open-asked.result = sym c.ask_open-asked.ensures in
@@ -34,17 +34,17 @@ returns-in-Accepted c =
     let t = r in
     let k = t in
     let s = c in
-    leaves-opened (lent_matrix) (setting_of s.args.setting) s.args.samples.now (held) _ _ _ _ (verdict ∙ ap verdict_of t.in-Accepted.is)
+    leaves-opened (lent_matrix) (setting_of s.args.setting) s.args.samples.now (held) _ _ _ _ (verdict ∙ ap verdict_of t.in-Ok.is)
     r.open_accepted.ensures
 
-pub returns-in-Refused : goal.returns-in-Refused
+pub returns-in-Err : goal.returns-in-Err
 unfolding open_verdict
-returns-in-Refused c =
+returns-in-Err c =
     let lent_matrix : Matrix = matrix_of c.args.shape c.args.list.now in
     let held : Held = held_of c.args.session c.args.word.now c.args.levels.now in
     let verdict : open_verdict (lent_matrix) (setting_of c.args.setting) c.args.samples.now (held) ≡ verdict_of c.ask_open-asked.result = sym c.ask_open-asked.ensures in
     let a = c in
     let k = a in
     let s = c in
-    leaves-unopened (lent_matrix) (setting_of s.args.setting) s.args.samples.now (held) _ _ (refusal_number a.in-Refused.f) (refusal_place a.in-Refused.f)
-    (verdict ∙ ap verdict_of a.in-Refused.is) c.refuse.ensures.1 (ap record_of c.refuse.ensures.0)
+    leaves-unopened (lent_matrix) (setting_of s.args.setting) s.args.samples.now (held) _ _ (refusal_number a.in-Err.f) (refusal_place a.in-Err.f)
+    (verdict ∙ ap verdict_of a.in-Err.is) c.refuse.ensures.1 (ap record_of c.refuse.ensures.0)

@@ -4,7 +4,7 @@ use Rattle.counting.specs.Places.{at}
 use Rattle.matrix.specs.Paper.Code.{Matrix, Word}
 use Rattle.matrix.specs.Paper.Shapes.{matrix_of}
 use Rattle.syndrome.proofs.Unpacked.{unpacked-word}
-use Rattle.session_round.proofs.Rounds.{lent_bounds, next_word, next-restorable, round-left}
+use Rattle.session_round.proofs.Rounds.{next_word, next-restorable, round-left}
 use Rattle.session_round.proofs.round_on.Goals as goal
 
 pub tally-requires : goal.tally-requires
@@ -12,18 +12,6 @@ tally-requires c =
     let lent_matrix : Matrix = matrix_of c.args.shape c.args.list.now in
     let u = c in
     (c.requires.matrix, unpacked-word (lent_matrix) _ _ _ u.unpack.ensures)
-
-pub move_levels-requires : goal.move_levels-requires
-move_levels-requires c =
-    let lent_matrix : Matrix = matrix_of c.args.shape c.args.list.now in
-    let k = c in
-    let s = c in
-    let H = lent_matrix in (
-      s.requires.matrix,
-      lent_bounds H s.args.middle s.args.word.now s.args.levels.now _ _ s.requires k.bias.ensures,
-      c.unpack.ensures.long,
-      k.bias.ensures.long,
-    )
 
 pub pack_into-requires : goal.pack_into-requires
 unfolding Word

@@ -1,13 +1,12 @@
 -- `session_round::step_accepted` meets its contract: one round, and the counts on the word that it leaves. Assumes nothing.
 use mathlib.Core.List.{List}
 use Prim.Native.Nat.{ℕ}
-use native.Mathlib.Omega.{arith}
 use lib.IntN.{ℤ}
 use Rattle.matrix.specs.Paper.Code.{Matrix}
 use Rattle.matrix.specs.Paper.Shapes.{matrix_of}
 use Rattle.session_asking.specs.Paper.Asked.{Held}
 use Rattle.session_asking.specs.Paper.Asked.{held_of}
-use Rattle.session.proofs.Answers.{step-lent, word-long, step-leaves}
+use Rattle.session.proofs.Answers.{step-lent, step-leaves}
 use Rattle.session_round.proofs.step_accepted.Goals as goal
 
 pub round_on-failing-requires : goal.round_on-failing-requires
@@ -19,18 +18,6 @@ round_on-failing-requires c =
     let m = c in
     let s = c in
     step-lent (lent_matrix) (received) (opened) (held) s.requires _ m.largest_of-middle.ensures
-
-pub changed_since-changed-requires : goal.changed_since-changed-requires
-changed_since-changed-requires c =
-    let lent_matrix : Matrix = matrix_of c.args.shape c.args.list.now in
-    let received : List ℕ = c.args.received.now in
-    let opened : List ℤ = c.args.opened.now in
-    let held : Held = held_of c.args.session c.args.word.now c.args.levels.now in
-    let r = c in
-    let m = c in
-    let s = c in
-    let long = word-long (lent_matrix) (received) (opened) (held) s.requires _ _ _ _ m.largest_of-middle.ensures r.round_on-failing.ensures in
-    (s.requires.matrix.sizes.n_most, omega (arith, s.requires.received), omega (arith, s.requires.opened), omega (arith, long))
 
 pub returns : goal.returns
 returns c =

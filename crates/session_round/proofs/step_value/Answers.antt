@@ -22,10 +22,10 @@ step_accepted-requires c =
     let t = c in
     let k = t in
     let s = c in
-    accepted-step (lent_matrix) (received) (opened) (held) (sym k.ask_step-asked.ensures ∙ ap verdict_of t.in-Accepted.is)
+    accepted-step (lent_matrix) (received) (opened) (held) (sym k.ask_step-asked.ensures ∙ ap verdict_of t.in-Ok.is)
 
-pub returns-in-Accepted : goal.returns-in-Accepted
-returns-in-Accepted c =
+pub returns-in-Ok : goal.returns-in-Ok
+returns-in-Ok c =
     let lent_matrix : Matrix = matrix_of c.args.shape c.args.list.now in
     let received : List ℕ = c.args.received.now in
     let opened : List ℤ = c.args.opened.now in
@@ -34,11 +34,11 @@ returns-in-Accepted c =
     let t = r in
     let k = t in
     let s = c in
-    leaves-stepped (lent_matrix) (received) (opened) (held) _ _ _ _ (sym k.ask_step-asked.ensures ∙ ap verdict_of t.in-Accepted.is)
+    leaves-stepped (lent_matrix) (received) (opened) (held) _ _ _ _ (sym k.ask_step-asked.ensures ∙ ap verdict_of t.in-Ok.is)
     r.step_accepted.ensures
 
-pub returns-in-Refused : goal.returns-in-Refused
-returns-in-Refused c =
+pub returns-in-Err : goal.returns-in-Err
+returns-in-Err c =
     let lent_matrix : Matrix = matrix_of c.args.shape c.args.list.now in
     let received : List ℕ = c.args.received.now in
     let opened : List ℤ = c.args.opened.now in
@@ -46,5 +46,5 @@ returns-in-Refused c =
     let a = c in
     let k = a in
     let s = c in
-    leaves-refused (lent_matrix) (received) (opened) (held) _ _ (refusal_number a.in-Refused.f) (refusal_place a.in-Refused.f)
-    (sym k.ask_step-asked.ensures ∙ ap verdict_of a.in-Refused.is) c.refuse.ensures.1 (ap record_of c.refuse.ensures.0)
+    leaves-refused (lent_matrix) (received) (opened) (held) _ _ (refusal_number a.in-Err.f) (refusal_place a.in-Err.f)
+    (sym k.ask_step-asked.ensures ∙ ap verdict_of a.in-Err.is) c.refuse.ensures.1 (ap record_of c.refuse.ensures.0)

@@ -1,13 +1,15 @@
-use mathlib.Core.Bool.{not}
-use mathlib.Core.Path.{ap}
-use native.Mathlib.Nat.{div-le_self}
+-- `sheet_blocks::described` meets its contract: blocks fill the matrix, and every block row stands. Assumes nothing.
+use mathlib.Core.Bool.{true, false, not}
+use mathlib.Core.Path.{refl, ap}
+use Prim.Native.Nat.{ℕ, ◌/◌}
 use native.Mathlib.Omega.{arith}
-use borrow.Author.Count.{below_more}
 use borrow.Author.Tests.{not-true, not-false}
+use Rattle.std.proofs.Common.{rules, tests}
+use Rattle.std.proofs.lemmas.Iterator.{YieldsList-from_range, cases_from_all}
 use Rattle.matrix.specs.Paper.Code.{Matrix}
 use Rattle.matrix.specs.Paper.Shapes.{matrix_of}
-use Rattle.sheet_blocks.specs.Parts.{Filled, Stands}
-use Rattle.sheet_blocks.proofs.Blocks.{grid-of, grid-stands, grid-filled, says_so, says-not}
+use Rattle.sheet_blocks.specs.Parts.{Says, Stands}
+use Rattle.sheet_blocks.proofs.Blocks.{all-says, grid-filled, grid-says, says-not}
 use Rattle.sheet_blocks.proofs.described.Goals as goal
 
 pub returns-then-not-whole_blocks : goal.returns-then-not-whole_blocks
@@ -16,50 +18,12 @@ returns-then-not-whole_blocks c =
     let s = c in
     says-not (lent) s.args.z (λ g. c.whole_blocks.ensures.not_so (not-true _ (ap not c.if-not-whole_blocks.true)) (grid-filled (lent) s.args.z g))
 
-pub nonzero_div-rows : goal.nonzero_div-rows
-nonzero_div-rows c =
-    let lent : Matrix = matrix_of c.args.shape c.args.list.now in
-    let filled : let H = lent in Filled H.n H.m c.args.z = c.whole_blocks.ensures.so (not-false _ (ap not c.if-not-whole_blocks.false)) in
-    (filled).some
-
-pub overflow_cast-rows : goal.overflow_cast-rows
-overflow_cast-rows c =
-    let s = c in
-    omega (arith, div-le_self s.args.shape.m s.args.z, s.requires.sizes.m_most)
-
-pub loop-r-init : goal.loop-r-init
-loop-r-init c = (omega arith, λ x h. absurd (omega arith))
-
-pub block_row-requires : goal.block_row-requires
-block_row-requires c =
-    let lent : Matrix = matrix_of c.args.shape c.args.list.now in
-    let filled : let H = lent in Filled H.n H.m c.args.z = c.whole_blocks.ensures.so (not-false _ (ap not c.if-not-whole_blocks.false)) in
-    (record { accepted = c.requires; filled = filled }, omega arith)
-
-pub returns-then-not-block_row : goal.returns-then-not-block_row
-returns-then-not-block_row c =
-    let lent : Matrix = matrix_of c.args.shape c.args.list.now in
-    let s = c in
-    let l = c.loop-r in
-    says-not (lent) s.args.z
-    (λ g. c.block_row.ensures.not_so (not-true _ (ap not c.if-not-block_row.true)) (grid-stands (lent) s.args.z g l.r (omega arith)))
-
-pub overflow_add-r : goal.overflow_add-r
-overflow_add-r c =
-    let s = c in
-    omega (arith, div-le_self s.args.shape.m s.args.z, s.requires.sizes.m_most)
-
-pub loop-r-preserved : goal.loop-r-preserved
-loop-r-preserved c =
-    let lent : Matrix = matrix_of c.args.shape c.args.list.now in
-    let s = c in
-    let l = c.loop-r in
-    (omega arith, below_more (Stands (lent) s.args.z) l.r l.invariant.1 (c.block_row.ensures.so (not-false _ (ap not c.if-not-block_row.false))))
-
 pub returns : goal.returns
 returns c =
-    let lent : Matrix = matrix_of c.args.shape c.args.list.now in
-    let filled : let H = lent in Filled H.n H.m c.args.z = c.whole_blocks.ensures.so (not-false _ (ap not c.if-not-whole_blocks.false)) in
-    let s = c in
-    let l = c.loop-r in
-    says_so (lent) s.args.z s.requires (grid-of (lent) s.args.z (filled) (λ r h. l.invariant.1 r (omega arith)))
+    let a = c.args in
+    let H : Matrix = matrix_of a.shape a.list.now in
+    let rows : ℕ = a.shape.m / a.z in
+    grid-says H a.z c.all.result c.requires (c.whole_blocks.ensures.so (not-false _ (ap not c.if-not-whole_blocks.false)))
+    (all-says rows c.all.result (λ r l (s : Says (Stands H a.z r) true). s.so refl) (λ r l (s : Says (Stands H a.z r) false). s.not_so refl)
+    (cases_from_all _ _ c.all.result (λ r. Says (Stands H a.z r) true) (λ r. Says (Stands H a.z r) false) c.all.ensures.ran
+    (YieldsList-from_range 0 rows rows refl (omega arith)) (λ x q k. search (rules, tests)) (λ x q k. search (rules, tests))))

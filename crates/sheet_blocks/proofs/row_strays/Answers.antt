@@ -1,5 +1,5 @@
 use mathlib.Core.Path.{◌≡◌, refl, ap, ◌∙◌}
-use Prim.Native.Nat.{ℕ, ◌+◌, ◌*◌}
+use Prim.Native.Nat.{ℕ, ◌+◌, ◌*◌, ◌<◌}
 use native.Mathlib.Nat.{le_antisymm, mod-lt}
 use native.Mathlib.Omega.{arith}
 use mathlib.Core.Bool.{not}
@@ -33,7 +33,7 @@ overflow_mul-from-2 c =
 
 pub loop-k-init : goal.loop-k-init
 unfolding sum_below
-loop-k-init c = (omega arith, refl)
+loop-k-init c = refl
 
 pub overflow_add-count : goal.overflow_add-count
 overflow_add-count c =
@@ -67,18 +67,18 @@ bounds-shifts-k c = omega (arith, c.requires.0.ready.accepted.sizes.rho_most)
 pub turn-requires : goal.turn-requires
 turn-requires c =
     let s = c in
-    (shift-near s.requires.0 c.loop-k.k (omega arith), s.requires.1)
+    (shift-near s.requires.0 c.loop-k.k (omega arith), omega (arith, s.requires.1, s.requires.0.ready.filled.some))
 
 pub overflow_add-count-in-loop-k : goal.overflow_add-count-in-loop-k
 overflow_add-count-in-loop-k c =
     let s = c in
     let l = c.loop-k in
     let t = s.requires.0 in
+    let low : c.turn.result < s.args.z = rw c.turn.ensures (mod-lt _ t.ready.filled.some) in
     omega (
       arith,
       start-low t l.k (omega arith),
-      c.turn.ensures,
-      mod-lt (s.args.i + at s.args.shifts.now l.k) t.ready.filled.some,
+      low,
       size-most t.ready,
     )
 
@@ -91,7 +91,7 @@ overflow_add-count-in-loop-k-2 c =
     let p = s.requires.0.split in
     stray-step a.list.now a.shape.rho a.z a.r a.i l.k l.count (at a.starts.now l.k + c.turn.result)
     (turned-is a.z (at a.list.now (a.r * a.z * a.shape.rho + l.k)) a.i (at a.starts.now l.k) (at a.shifts.now l.k) c.turn.result
-    (p.start l.k (omega arith)) (p.shift l.k (omega arith)) c.turn.ensures) l.invariant.1 in
+    (p.start l.k (omega arith)) (p.shift l.k (omega arith)) c.turn.ensures) l.invariant in
     let s = c in
     let a = s.args in
     let l = c.loop-k in
@@ -102,9 +102,6 @@ overflow_add-count-in-loop-k-2 c =
       s.requires.0.ready.accepted.sizes.rho_most,
     )
 
-pub overflow_add-k : goal.overflow_add-k
-overflow_add-k c = omega (arith, c.requires.0.ready.accepted.sizes.rho_most)
-
 pub loop-k-preserved : goal.loop-k-preserved
 unfolding first_entry entry
 loop-k-preserved c =
@@ -114,11 +111,11 @@ loop-k-preserved c =
     let p = s.requires.0.split in
     stray-step a.list.now a.shape.rho a.z a.r a.i l.k l.count (at a.starts.now l.k + c.turn.result)
     (turned-is a.z (at a.list.now (a.r * a.z * a.shape.rho + l.k)) a.i (at a.starts.now l.k) (at a.shifts.now l.k) c.turn.result
-    (p.start l.k (omega arith)) (p.shift l.k (omega arith)) c.turn.ensures) l.invariant.1 in
-    (omega arith, counted)
+    (p.start l.k (omega arith)) (p.shift l.k (omega arith)) c.turn.ensures) l.invariant in
+    counted
 
 pub returns : goal.returns
 returns c =
     let a = c.args in
     let l = c.loop-k in
-    l.invariant.1 ∙ ap (λ (k : ℕ). sum_below k (strays a.list.now a.shape.rho a.z a.r a.i)) (le_antisymm l.invariant.0 (omega arith))
+    l.invariant ∙ ap (λ (k : ℕ). sum_below k (strays a.list.now a.shape.rho a.z a.r a.i)) (le_antisymm l.auto.k-end (omega arith))

@@ -19,7 +19,7 @@ overflow_mul-from-2 c =
     omega (arith, first-place y s.args.r 0 s.requires.1 (omega (arith, y.accepted.sizes.rho_least)), short y)
 
 pub loop-k-init : goal.loop-k-init
-loop-k-init c = (omega arith, sym (over_none _ _), sym (over_none _ _))
+loop-k-init c = (sym (over_none _ _), sym (over_none _ _))
 
 pub overflow_add-e : goal.overflow_add-e
 overflow_add-e c =
@@ -56,19 +56,15 @@ offset_bounds-shifts-k c = omega (arith, c.requires.0.accepted.sizes.rho_most)
 pub bounds-shifts-k : goal.bounds-shifts-k
 bounds-shifts-k c = omega (arith, c.requires.0.accepted.sizes.rho_most)
 
-pub overflow_add-k : goal.overflow_add-k
-overflow_add-k c = omega (arith, c.requires.0.accepted.sizes.rho_most)
-
 pub loop-k-preserved : goal.loop-k-preserved
 loop-k-preserved c =
     let s = c in
     let a = s.args in
     let l = c.loop-k in
     let from = a.r * a.z * a.shape.rho in (
-      omega arith,
-      over-step l.k (start_by a.list.now a.z from) a.starts.now l.starts l.invariant.1 _
+      over-step l.k (start_by a.list.now a.z from) a.starts.now l.starts l.invariant.0 _
           (omega (arith, s.requires.0.accepted.sizes.rho_most, s.requires.2)) (start_is a.list.now a.z from l.k),
-      over-step l.k (shift_by a.list.now a.z from) a.shifts.now l.shifts l.invariant.2 _
+      over-step l.k (shift_by a.list.now a.z from) a.shifts.now l.shifts l.invariant.1 _
           (omega (arith, s.requires.0.accepted.sizes.rho_most, s.requires.3)) (shift_is a.list.now a.z from l.k),
     )
 
@@ -77,6 +73,6 @@ returns c =
     let s = c in
     let a = s.args in
     let l = c.loop-k in
-    let e : l.k ≡ a.shape.rho = le_antisymm l.invariant.0 (omega arith) in
+    let e : l.k ≡ a.shape.rho = le_antisymm l.auto.k-end (omega arith) in
     split_done (matrix_of a.shape a.list.now) a.z a.r l.starts a.starts.now l.shifts a.shifts.now
-    (rw e at l.invariant.1) (rw e at l.invariant.2)
+    (rw e at l.invariant.0) (rw e at l.invariant.1)

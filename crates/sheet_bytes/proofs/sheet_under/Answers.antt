@@ -3,9 +3,8 @@ use mathlib.Core.Path.{◌≡◌, sym, ◌∙◌}
 use mathlib.Core.Bool.{false}
 use native.Mathlib.Omega.{arith}
 use Rattle.sheet.specs.Paper.Sheet.{zero_size, unlike_rows, wrong_length}
-use Rattle.sheet_bytes.specs.Parts.{Mapped}
-use Rattle.sheet_bytes.proofs.Maps.{places-are, places-few}
-use Rattle.sheet_bytes.proofs.Faults.{zero_is, mapped, first_says, length-right, short-refused, zero-refused, first-refused, unlike-refused, last-say}
+use Rattle.sheet_bytes.proofs.Maps.{places-are}
+use Rattle.sheet_bytes.proofs.Faults.{zero_is, first_says, length-right, short-refused, zero-refused, first-refused, unlike-refused, last-say}
 use Rattle.sheet_bytes.proofs.sheet_under.Goals as goal
 
 pub returns-then-zero_size : goal.returns-then-zero_size
@@ -13,43 +12,19 @@ returns-then-zero_size c =
     let s = c in
     zero-refused s.args.bytes.now (sym (zero_is s.requires) ∙ sym c.zero_size.ensures ∙ c.if-zero_size.true)
 
-pub overflow_add-map_bytes : goal.overflow_add-map_bytes
-overflow_add-map_bytes c = omega (arith, places-few c.requires, c.map_bytes.ensures)
-
 pub returns-then-bytes-map_bytes : goal.returns-then-bytes-map_bytes
 returns-then-bytes-map_bytes c =
     let s = c in
     short-refused s.args.bytes.now (omega (arith, places-are s.requires, c.map_bytes.ensures, c.if-bytes-map_bytes.true))
 
-pub wrong_length-requires : goal.wrong_length-requires
-wrong_length-requires c =
-    let no_zero : zero_size c.args.bytes.now ≡ false = sym (zero_is c.requires) ∙ sym c.zero_size.ensures ∙ c.if-zero_size.false in
-    let there : Mapped c.args.bytes.now = mapped c.requires c.map_bytes.result (no_zero) c.map_bytes.ensures
-    c.if-bytes-map_bytes.false in
-    (c.requires, there)
-
 pub returns-then-wrong_length : goal.returns-then-wrong_length
 returns-then-wrong_length c =
     first-refused c.args.bytes.now (sym c.wrong_length.ensures ∙ c.if-wrong_length.true)
-
-pub unlike_rows-requires : goal.unlike_rows-requires
-unlike_rows-requires c =
-    let no_zero : zero_size c.args.bytes.now ≡ false = sym (zero_is c.requires) ∙ sym c.zero_size.ensures ∙ c.if-zero_size.false in
-    let there : Mapped c.args.bytes.now = mapped c.requires c.map_bytes.result (no_zero) c.map_bytes.ensures
-    c.if-bytes-map_bytes.false in
-    (c.requires, there)
 
 pub returns-then-unlike_rows : goal.returns-then-unlike_rows
 returns-then-unlike_rows c =
     unlike-refused c.args.bytes.now
     (sym c.unlike_rows.ensures ∙ c.if-unlike_rows.true)
-
-pub spare_set-requires : goal.spare_set-requires
-spare_set-requires c =
-    let no_zero : zero_size c.args.bytes.now ≡ false = sym (zero_is c.requires) ∙ sym c.zero_size.ensures ∙ c.if-zero_size.false in
-    let there : Mapped c.args.bytes.now = mapped c.requires c.map_bytes.result (no_zero) c.map_bytes.ensures
-    c.if-bytes-map_bytes.false in
-    (c.requires, there)
 
 pub shift_too_far-requires : goal.shift_too_far-requires
 shift_too_far-requires c =

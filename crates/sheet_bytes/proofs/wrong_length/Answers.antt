@@ -1,20 +1,9 @@
 -- `sheet_bytes::wrong_length` meets its contract: the first block row is counted for all. Assumes nothing.
 use Prim.Native.Nat.{◌*◌, ◌≤◌}
 use native.Mathlib.Omega.{arith}
-use Rattle.sheet_bytes.proofs.Maps.{product_small, places-few, row-there, from-few}
+use Rattle.sheet_bytes.proofs.Maps.{product_small, places-few, from-few}
 use Rattle.sheet_bytes.proofs.Faults.{wrong-is}
 use Rattle.sheet_bytes.proofs.wrong_length.Goals as goal
-
-pub overflow_add-shifts : goal.overflow_add-shifts
-overflow_add-shifts c =
-    let few : c.map_bytes-shifts.result ≤ 4294967296 = omega (arith, places-few c.requires.0, c.map_bytes-shifts.ensures) in
-    omega (arith, few)
-
-pub set_from-rho-requires : goal.set_from-rho-requires
-set_from-rho-requires c =
-    let s = c in
-    let t = row-there s.requires.0 s.requires.1 0 (omega (arith, s.requires.0.rows, s.requires.1.some)) in
-    (omega (arith, t.0), omega (arith, t.1))
 
 pub overflow_mul-result : goal.overflow_mul-result
 overflow_mul-result c =

@@ -6,16 +6,6 @@ use Rattle.sheet_rows.proofs.Lent.{row_inside}
 use Rattle.sheet_rows.proofs.Starting.{blocks-of, rows-turned}
 use Rattle.sheet_rows.proofs.put_block_row.Goals as goal
 
-pub overflow_mul-h : goal.overflow_mul-h
-overflow_mul-h c =
-    let inside : c.args.r * (c.args.h.size * c.args.rho) + c.args.h.size * c.args.rho ≤ length c.args.list.now = omega (arith, c.requires.2, row_inside c.args.bytes.now c.args.h c.args.rho c.requires.0 c.args.r c.requires.1) in
-    omega (arith, inside)
-
-pub overflow_mul-r : goal.overflow_mul-r
-overflow_mul-r c =
-    let inside : c.args.r * (c.args.h.size * c.args.rho) + c.args.h.size * c.args.rho ≤ length c.args.list.now = omega (arith, c.requires.2, row_inside c.args.bytes.now c.args.h c.args.rho c.requires.0 c.args.r c.requires.1) in
-    omega (arith, inside)
-
 pub put_block-requires : goal.put_block-requires
 put_block-requires c =
     let inside : c.args.r * (c.args.h.size * c.args.rho) + c.args.h.size * c.args.rho ≤ length c.args.list.now = omega (arith, c.requires.2, row_inside c.args.bytes.now c.args.h c.args.rho c.requires.0 c.args.r c.requires.1) in

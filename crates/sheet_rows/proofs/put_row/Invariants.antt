@@ -1,11 +1,7 @@
 -- `sheet_rows::put_row`. The loop's invariant: the first `k` entries of the row are written.
-use Prim.Native.Nat.{◌-◌, ◌≤◌}
 use mathlib.Core.Path.{◌≡◌}
 use Rattle.sheet_rows.specs.Parts.{turned_at, put_from}
 use Rattle.sheet_rows.proofs.put_row.Given as goal
 
 abbrev pub invariant-loop-k : goal.invariant-loop-k
-invariant-loop-k l = (l.k ≤ l.rho) × (l.list ≡ put_from l.p l.k (turned_at l.starts l.shifts l.z l.i) l.initial.list)
-
-abbrev pub decreases-loop-k : goal.decreases-loop-k
-decreases-loop-k l = l.rho - l.k
+invariant-loop-k l = l.list ≡ put_from l.p l.k (turned_at l.starts l.shifts l.z l.i) l.initial.list

@@ -1,57 +1,37 @@
-use Prim.Native.Nat.{◌≤◌}
-use mathlib.Core.Path.{◌≡◌, ap, ◌∙◌}
-use native.Mathlib.Nat.{le_antisymm}
+-- `sheet_rows::set_down`: the places of the block column are 0 or 1, and their sum is what is counted.
+use mathlib.Core.Path.{◌∙◌}
+use Prim.Native.Nat.{ℕ, ◌+◌, ◌*◌, ◌<◌}
 use native.Mathlib.Omega.{arith}
-use Rattle.sheet_rows.specs.Parts.{set_above}
-use Rattle.sheet_rows.proofs.Lent.{place-small, place-there, place-bit, down-none, down-more, down-all}
+use Rattle.std.proofs.Common.{rules, tests}
+use Rattle.std.specs.List.{range_with_len}
+use Rattle.std.proofs.iter.Serving.{serving}
+use Rattle.std.proofs.lemmas.Iterator.{YieldsList-from_range, YieldsList-from_map}
+use Rattle.std.proofs.lemmas.Iterator.Consumers.{sum_by_from_yields_List, fits_by_from_yields_list}
+use Rattle.sheet.specs.Paper.Sheet.{map_bit}
+use Rattle.sheet_rows.proofs.Lent.{place_small, place_there, down-is, down-few}
 use Rattle.sheet_rows.proofs.set_down.Goals as goal
 
-pub loop-r-init : goal.loop-r-init
-loop-r-init c = let a = c.args in (omega arith, omega arith, down-none a.bytes.now a.h c.requires.1 a.c)
+pub sum-requires-clause-can : goal.sum-requires-clause-can
+sum-requires-clause-can c =
+    let a = c.args in
+    let small = λ (r : ℕ) (l : r < a.h.rows). place_small a.bytes.now c.requires.0 a.h c.requires.1 r a.c l c.requires.2 in
+    let there = λ (r : ℕ) (l : r < a.h.rows). place_there a.bytes.now c.requires.0 a.h c.requires.1 r a.c l c.requires.2 in
+    grind (serving, small, there)
 
-pub overflow_mul-r : goal.overflow_mul-r
-overflow_mul-r c =
-    let s = c in
-    omega (arith, place-small s.args.bytes.now s.requires.0 s.args.h s.requires.1 c.loop-r.r s.args.c (omega arith) s.requires.2)
-
-pub overflow_add-r : goal.overflow_add-r
-overflow_add-r c =
-    let s = c in
-    omega (arith, place-small s.args.bytes.now s.requires.0 s.args.h s.requires.1 c.loop-r.r s.args.c (omega arith) s.requires.2)
-
-pub map_bit-count-requires : goal.map_bit-count-requires
-map_bit-count-requires c =
-    let s = c in
-    let r = c.loop-r.r in (
-      place-there s.args.bytes.now s.requires.0 s.args.h s.requires.1 r s.args.c (omega arith) s.requires.2,
-      omega (arith, place-small s.args.bytes.now s.requires.0 s.args.h s.requires.1 r s.args.c (omega arith) s.requires.2),
-    )
-
-pub overflow_add-count : goal.overflow_add-count
-overflow_add-count c =
-    let bit : c.map_bit-count.result ≤ 1 = let s = c in
-    omega (arith, c.map_bit-count.ensures, place-bit s.args.bytes.now s.args.h s.requires.1 c.loop-r.r s.args.c) in
-    omega (arith, bit, c.requires.1.rows_small)
-
-pub overflow_add-r-in-loop-r : goal.overflow_add-r-in-loop-r
-overflow_add-r-in-loop-r c = omega (arith, c.requires.1.rows_small)
-
-pub loop-r-preserved : goal.loop-r-preserved
-loop-r-preserved c =
-    let bit : c.map_bit-count.result ≤ 1 = let s = c in
-    omega (arith, c.map_bit-count.ensures, place-bit s.args.bytes.now s.args.h s.requires.1 c.loop-r.r s.args.c) in
-    let s = c in
-    let l = c.loop-r in (
-      omega arith,
-      omega (arith, bit, l.invariant.1),
-      omega (arith, l.invariant.2, c.map_bit-count.ensures, down-more s.args.bytes.now s.args.h s.requires.1 l.r s.args.c),
-    )
+pub sum-requires-clause-fits : goal.sum-requires-clause-fits
+sum-requires-clause-fits c =
+    let a = c.args in
+    let f : ℕ → ℕ = λ r. map_bit a.bytes.now (r * a.h.columns + a.c) in
+    fits_by_from_yields_list f (range_with_len 0 a.h.rows) c.map.result _
+    (YieldsList-from_map _ f (YieldsList-from_range 0 a.h.rows a.h.rows (cc) (omega arith)) c.map.ensures.closure (λ x r q k. search (rules, tests)))
+    (omega (arith, down-is a.bytes.now a.h c.requires.1 a.c, down-few a.bytes.now a.h c.requires.1 a.c, c.requires.1.rows_small))
 
 pub returns : goal.returns
 returns c =
-    let s = c in
-    let l = c.loop-r in
-    let e : l.r ≡ s.args.h.rows = le_antisymm l.invariant.0 (omega arith) in (
-      l.invariant.2 ∙ ap (λ k. set_above s.args.bytes.now k s.args.c) e ∙ down-all s.args.bytes.now s.args.h s.requires.1 s.args.c,
-      omega (arith, l.invariant.1),
-    )
+    let a = c.args in
+    let f : ℕ → ℕ = λ r. map_bit a.bytes.now (r * a.h.columns + a.c) in
+    let e =
+    sum_by_from_yields_List f (range_with_len 0 a.h.rows) c.map.result _ c.sum.ensures.ran
+    (YieldsList-from_map _ f (YieldsList-from_range 0 a.h.rows a.h.rows (cc) (omega arith)) c.map.ensures.closure (λ x r q k. search (rules, tests)))
+    ∙ down-is a.bytes.now a.h c.requires.1 a.c in
+    (e, omega (arith, e, down-few a.bytes.now a.h c.requires.1 a.c))

@@ -19,7 +19,7 @@ pub nonzero_div-columns : goal.nonzero_div-columns
 nonzero_div-columns c = c.requires.1.some
 
 pub loop-k-init : goal.loop-k-init
-loop-k-init c = (omega arith, c.requires.3)
+loop-k-init c = c.requires.3
 
 pub overflow_mul-r : goal.overflow_mul-r
 overflow_mul-r c =
@@ -62,7 +62,7 @@ set_bit-requires c =
     let l = c.loop-k in
     let e = c.column-e in
     let fits = place-fits (lent) s.args.z s.requires.0 s.requires.1 s.args.r l.k s.requires.2 (omega arith) e.result e.ensures.is in
-    omega (arith, fits, l.invariant.1.long)
+    omega (arith, fits, l.invariant.long)
 
 pub loop-k-preserved : goal.loop-k-preserved
 loop-k-preserved c =
@@ -71,19 +71,17 @@ loop-k-preserved c =
     let l = c.loop-k in
     let e = c.column-e in
     let w = c.set_bit in
-    let is = place_is (lent) s.args.z s.requires.0 s.requires.1 s.args.r l.k s.requires.2 (omega arith) e.result e.ensures.is in (
-      omega arith,
-      marked_step (lent) s.args.z s.requires.0 s.requires.1 s.args.r l.k s.requires.2 (omega arith) l.map w.new.w l.invariant.1
-          (subst (SetBit l.map w.new.w) is w.ensures),
-    )
+    let is = place_is (lent) s.args.z s.requires.0 s.requires.1 s.args.r l.k s.requires.2 (omega arith) e.result e.ensures.is in
+    marked_step (lent) s.args.z s.requires.0 s.requires.1 s.args.r l.k s.requires.2 (omega arith) l.map w.new.w l.invariant
+    (subst (SetBit l.map w.new.w) is w.ensures)
 
 pub shape_of-map : goal.shape_of-map
-shape_of-map c = c.loop-k.invariant.1.long ∙ sym c.requires.3.long
+shape_of-map c = c.loop-k.invariant.long ∙ sym c.requires.3.long
 
 pub returns : goal.returns
 returns c =
     let lent : Matrix = matrix_of c.args.shape c.args.list.now in
     let s = c in
     let l = c.loop-k in
-    let e : l.k ≡ s.args.shape.rho = le_antisymm l.invariant.0 (omega arith) in
-    marked_row (lent) s.args.z s.args.r l.map (rw e at l.invariant.1)
+    let e : l.k ≡ s.args.shape.rho = le_antisymm l.auto.k-end (omega arith) in
+    marked_row (lent) s.args.z s.args.r l.map (rw e at l.invariant)

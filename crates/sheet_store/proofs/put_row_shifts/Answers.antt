@@ -19,7 +19,7 @@ pub loop-k-init : goal.loop-k-init
 loop-k-init c =
     let lent : Matrix = matrix_of c.args.shape c.args.list.now in
     let s = c in
-    (omega arith, shift_none (lent) s.args.z s.args.r s.args.p s.args.sheet.now)
+    shift_none (lent) s.args.z s.args.r s.args.p s.args.sheet.now
 
 pub overflow_mul-r : goal.overflow_mul-r
 overflow_mul-r c =
@@ -55,7 +55,7 @@ pub put16-requires : goal.put16-requires
 put16-requires c =
     let lent : Matrix = matrix_of c.args.shape c.args.list.now in
     let long : length c.loop-k.sheet ≡ length c.args.sheet.now = let s = c in
-    ap length c.loop-k.invariant.1 ∙ length-sets s.args.sheet.now s.args.p (joined c.loop-k.k (shift_bytes (lent) s.args.z s.args.r)) in
+    ap length c.loop-k.invariant ∙ length-sets s.args.sheet.now s.args.p (joined c.loop-k.k (shift_bytes (lent) s.args.z s.args.r)) in
     let s = c in
     omega (arith, s.requires.3, long)
 
@@ -65,17 +65,15 @@ loop-k-preserved c =
     let s = c in
     let l = c.loop-k in
     let e = c.column-e in
-    let w = c.put16 in (
-      omega arith,
-      shift-next (lent) s.args.z s.args.r s.args.p s.args.sheet.now l.k e.result l.sheet w.new.bytes e.ensures.is
-          l.invariant.1 w.ensures,
-    )
+    let w = c.put16 in
+    shift-next (lent) s.args.z s.args.r s.args.p s.args.sheet.now l.k e.result l.sheet w.new.bytes e.ensures.is
+    l.invariant w.ensures
 
 pub shape_of-sheet : goal.shape_of-sheet
 shape_of-sheet c =
     let lent : Matrix = matrix_of c.args.shape c.args.list.now in
     let long : length c.loop-k.sheet ≡ length c.args.sheet.now = let s = c in
-    ap length c.loop-k.invariant.1 ∙ length-sets s.args.sheet.now s.args.p (joined c.loop-k.k (shift_bytes (lent) s.args.z s.args.r)) in
+    ap length c.loop-k.invariant ∙ length-sets s.args.sheet.now s.args.p (joined c.loop-k.k (shift_bytes (lent) s.args.z s.args.r)) in
     long
 
 pub returns : goal.returns
@@ -83,5 +81,5 @@ returns c =
     let lent : Matrix = matrix_of c.args.shape c.args.list.now in
     let s = c in
     let l = c.loop-k in
-    let e : l.k ≡ s.args.shape.rho = le_antisymm l.invariant.0 (omega arith) in
-    shift-all (lent) s.args.z s.args.r s.args.p s.args.sheet.now l.sheet (rw e at l.invariant.1)
+    let e : l.k ≡ s.args.shape.rho = le_antisymm l.auto.k-end (omega arith) in
+    shift-all (lent) s.args.z s.args.r s.args.p s.args.sheet.now l.sheet (rw e at l.invariant)

@@ -1,5 +1,4 @@
 -- `sheet_store::put_row_shifts` meets its contract. The loop's invariant: the first k shifts of the block row are written. Assumes nothing.
-use Prim.Native.Nat.{◌-◌, ◌≤◌}
 use mathlib.Core.Path.{◌≡◌}
 use lib.Seq.{sets}
 use Rattle.counting.specs.Paper.Joined.{joined}
@@ -8,7 +7,4 @@ use Rattle.sheet_store.specs.Storing.{shift_bytes}
 use Rattle.sheet_store.proofs.put_row_shifts.Given as goal
 
 abbrev pub invariant-loop-k : goal.invariant-loop-k
-invariant-loop-k l = (l.k ≤ l.rho) × (l.sheet ≡ sets l.initial.sheet l.p (joined l.k (shift_bytes (matrix_of l.shape l.list) l.z l.r)))
-
-abbrev pub decreases-loop-k : goal.decreases-loop-k
-decreases-loop-k l = l.rho - l.k
+invariant-loop-k l = l.sheet ≡ sets l.initial.sheet l.p (joined l.k (shift_bytes (matrix_of l.shape l.list) l.z l.r))

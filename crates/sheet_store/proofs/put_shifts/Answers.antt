@@ -1,6 +1,6 @@
 use Prim.Native.Nat.{◌+◌, ◌*◌, ◌/◌, ◌≤◌, ◌<◌}
 use mathlib.Core.Path.{◌≡◌, ap, ◌∙◌}
-use native.Mathlib.Nat.{le_antisymm, div-le_self}
+use native.Mathlib.Nat.{le_antisymm}
 use native.Mathlib.Omega.{arith}
 use lib.ListN.{length}
 use lib.Seq.{length-sets}
@@ -25,7 +25,7 @@ pub loop-r-init : goal.loop-r-init
 loop-r-init c =
     let lent : Matrix = matrix_of c.args.shape c.args.list.now in
     let s = c in
-    (omega arith, sets-none (row_shifts (lent) s.args.z) s.args.sheet.now s.args.from)
+    sets-none (row_shifts (lent) s.args.z) s.args.sheet.now s.args.from
 
 pub overflow_mul-r : goal.overflow_mul-r
 overflow_mul-r c =
@@ -57,35 +57,28 @@ put_row_shifts-requires c =
     let room : c.args.from + 2 * (c.loop-r.r * c.args.shape.rho) + 2 * c.args.shape.rho ≤ length c.args.sheet.now = let s = c in
     row_room (lent) s.args.z c.loop-r.r s.args.from (length s.args.sheet.now) (omega arith) s.requires.2 in
     let long : length c.loop-r.sheet ≡ length c.args.sheet.now = let s = c in
-    ap length c.loop-r.invariant.1 ∙ length-sets s.args.sheet.now s.args.from (joined c.loop-r.r (row_shifts (lent) s.args.z)) in
+    ap length c.loop-r.invariant ∙ length-sets s.args.sheet.now s.args.from (joined c.loop-r.r (row_shifts (lent) s.args.z)) in
     let s = c in
     (s.requires.0, s.requires.1, omega arith, omega (arith, room, long))
-
-pub overflow_add-r : goal.overflow_add-r
-overflow_add-r c =
-    let s = c in
-    omega (arith, div-le_self s.args.shape.m s.args.z, s.requires.0.sizes.m_most)
 
 pub loop-r-preserved : goal.loop-r-preserved
 loop-r-preserved c =
     let lent : Matrix = matrix_of c.args.shape c.args.list.now in
     let s = c in
     let l = c.loop-r in
-    let w = c.put_row_shifts in (
-      omega arith,
-      row_next (lent) s.args.z l.r s.args.from s.args.sheet.now l.sheet w.new.sheet l.invariant.1 w.ensures,
-    )
+    let w = c.put_row_shifts in
+    row_next (lent) s.args.z l.r s.args.from s.args.sheet.now l.sheet w.new.sheet l.invariant w.ensures
 
 pub shape_of-sheet : goal.shape_of-sheet
 shape_of-sheet c =
     let lent : Matrix = matrix_of c.args.shape c.args.list.now in
     let long : length c.loop-r.sheet ≡ length c.args.sheet.now = let s = c in
-    ap length c.loop-r.invariant.1 ∙ length-sets s.args.sheet.now s.args.from (joined c.loop-r.r (row_shifts (lent) s.args.z)) in
+    ap length c.loop-r.invariant ∙ length-sets s.args.sheet.now s.args.from (joined c.loop-r.r (row_shifts (lent) s.args.z)) in
     long
 
 pub returns : goal.returns
 returns c =
     let s = c in
     let l = c.loop-r in
-    let e : l.r ≡ s.args.shape.m / s.args.z = le_antisymm l.invariant.0 (omega arith) in
-    rw e at l.invariant.1
+    let e : l.r ≡ s.args.shape.m / s.args.z = le_antisymm l.auto.r-end (omega arith) in
+    rw e at l.invariant

@@ -20,5 +20,5 @@ returns-then-list-count c =
 pub returns : goal.returns
 returns c =
     let s = c in
-    both-written s.args.shape s.args.made.now s.args.sizes.now _ s.args.list.now _ s.requires (omega arith) (omega arith)
-    c.put_sizes.ensures c.copy_front.ensures
+    both-written s.args.shape s.args.made.now _ s.args.sizes.now _ s.args.list.now s.requires (omega arith) (omega arith)
+    c.put_sizes.ensures c.copy_from_slice.ensures.after

@@ -1,12 +1,12 @@
--- `sheet_to_list::put_sizes`: four stores, one after the other.
-use Rattle.sheet_to_list.proofs.Sizes.{second-there, third-there, sizes-put}
+-- `sheet_to_list::put_sizes`: what is copied are the sizes of the shape.
+use mathlib.Core.Path.{ap}
+use mathlib.Core.List.{List, ◌++◌}
+use Prim.Native.Nat.{ℕ}
+use lib.ListN.{drop}
+use Rattle.counting.specs.Paper.Lists.{over}
+use Rattle.sheet.specs.Paper.Calls.{sizes_of}
 use Rattle.sheet_to_list.proofs.put_sizes.Goals as goal
 
-pub bounds-sizes-1 : goal.bounds-sizes-1
-bounds-sizes-1 c = second-there c.args.sizes.now _ c.requires
-
-pub bounds-sizes-2 : goal.bounds-sizes-2
-bounds-sizes-2 c = third-there c.args.sizes.now _ _ c.requires
-
 pub returns : goal.returns
-returns c = sizes-put c.args.shape c.args.sizes.now c.requires
+unfolding over sizes_of
+returns c = ap (λ (l : List ℕ). l ++ drop 4 c.args.sizes.now) c.copy_from_slice.ensures.after

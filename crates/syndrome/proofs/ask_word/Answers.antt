@@ -3,7 +3,6 @@ use mathlib.Core.Path.{◌≡◌, sym, ap, ◌∙◌}
 use mathlib.Core.Bool.{Bool, false}
 use lib.ListN.{length}
 use Rattle.answers.specs.Paper.Answers.{accepted, refuse_when, wrong_lengths}
-use Rattle.answers.proofs.Verdicts.{lengths-fit}
 use Rattle.packed_word.specs.Paper.Packed.{bytes_for}
 use Rattle.syndrome.proofs.Received.{word-buffer, word-spare}
 use Rattle.syndrome.proofs.ask_word.Goals as goal
@@ -12,12 +11,6 @@ pub returns-then-wrong_lengths : goal.returns-then-wrong_lengths
 returns-then-wrong_lengths c =
     let a = c.args in
     word-buffer a.n a.received.now a.bytes a.room (sym c.wrong_lengths.ensures ∙ c.if-wrong_lengths.true)
-
-pub spare_set-requires : goal.spare_set-requires
-spare_set-requires c =
-    let lengths : let a = c.args in wrong_lengths (length a.received.now) (bytes_for a.n) a.bytes (bytes_for a.n) a.room a.n ≡ false = sym c.wrong_lengths.ensures ∙ c.if-wrong_lengths.false in
-    let a = c.args in
-    ((lengths-fit (length a.received.now) (bytes_for a.n) a.bytes (bytes_for a.n) a.room a.n (lengths)).0, c.requires)
 
 pub returns : goal.returns
 returns c =

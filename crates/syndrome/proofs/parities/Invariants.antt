@@ -1,5 +1,4 @@
 -- `syndrome::parities`. The loop's invariant: the parities of the first `i` rows are written over the old ones.
-use Prim.Native.Nat.{◌-◌, ◌≤◌}
 use mathlib.Core.Path.{◌≡◌}
 use Rattle.counting.specs.Paper.Lists.{listed, over}
 use Rattle.counting.specs.Places.{at}
@@ -7,7 +6,4 @@ use Rattle.syndrome.specs.Places.{row_fails}
 use Rattle.syndrome.proofs.parities.Given as goal
 
 abbrev pub invariant-loop-i : goal.invariant-loop-i
-invariant-loop-i l = (l.i ≤ l.m) × (l.parity ≡ over (listed l.i (row_fails l.list l.rho (at l.bits))) l.initial.parity)
-
-abbrev pub decreases-loop-i : goal.decreases-loop-i
-decreases-loop-i l = l.m - l.i
+invariant-loop-i l = l.parity ≡ over (listed l.i (row_fails l.list l.rho (at l.bits))) l.initial.parity

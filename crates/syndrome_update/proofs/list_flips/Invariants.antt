@@ -1,11 +1,8 @@
--- `syndrome_update::list_flips`. The loop's invariant: the first `t` of `places` are the places below `j` at which the words differ.
-use Prim.Native.Nat.{◌-◌, ◌≤◌}
+-- `syndrome_update::list_flips`. The loop's invariant: the first `t` of `places` are the places below `8 q` at which the words differ.
+use Prim.Native.Nat.{◌*◌}
 use Rattle.counting.specs.Places.{at}
 use Rattle.syndrome_update.specs.Parities.{differing, FlipsListed}
 use Rattle.syndrome_update.proofs.list_flips.Given as goal
 
-abbrev pub invariant-loop-j : goal.invariant-loop-j
-invariant-loop-j l = (l.j ≤ l.n) × FlipsListed (differing (at l.before) (at l.bits)) l.j l.initial.places l.places l.t
-
-abbrev pub decreases-loop-j : goal.decreases-loop-j
-decreases-loop-j l = l.n - l.j
+abbrev pub invariant-loop-q : goal.invariant-loop-q
+invariant-loop-q l = FlipsListed (differing (at l.before) (at l.bits)) (8 * l.q) l.initial.places l.places l.t

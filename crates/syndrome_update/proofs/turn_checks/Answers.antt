@@ -1,26 +1,16 @@
-use native.Mathlib.Nat.{le_antisymm}
+use Prim.Native.Nat.{◌+◌, ◌-◌}
 use native.Mathlib.Omega.{arith}
+use Rattle.syndrome.proofs.Parity.{part-at}
 use Rattle.syndrome_update.proofs.Turns.{checks-none, checks-step}
 use Rattle.syndrome_update.proofs.turn_checks.Goals as goal
 
-pub loop-k-init : goal.loop-k-init
-loop-k-init c = (omega arith, checks-none c.args.parity.now c.requires.1 c.args.index.now c.args.from)
+pub loop-i-init : goal.loop-i-init
+loop-i-init c = checks-none c.args.parity.now c.requires.1 c.args.index.now c.args.from
 
-pub overflow_cast-i : goal.overflow_cast-i
-overflow_cast-i c = omega (arith, c.requires.0.below c.loop-k.k (omega arith))
-
-pub bounds-parity-i : goal.bounds-parity-i
-bounds-parity-i c = c.requires.0.below c.loop-k.k (omega arith)
-
-pub bounds-parity-i-in-loop-k : goal.bounds-parity-i-in-loop-k
-bounds-parity-i-in-loop-k c = c.requires.0.below c.loop-k.k (omega arith)
-
-pub loop-k-preserved : goal.loop-k-preserved
-loop-k-preserved c =
-    let s = c in
-    let o = c.loop-k in
-    let a = s.args in
-    (omega arith, checks-step a.parity.now s.requires.1 a.index.now a.from o.k o.parity (s.requires.0.below o.k (omega arith)) o.invariant.1)
-
-pub returns : goal.returns
-returns c = rw (le_antisymm c.loop-k.invariant.0 (omega arith)) at c.loop-k.invariant.1
+pub loop-i-preserved : goal.loop-i-preserved
+loop-i-preserved c =
+    let a = c.args in
+    let o = c.loop-i in
+    let k = o.i-index in
+    let e = part-at a.index.now a.from (a.from + a.count - a.from) k (omega arith) in
+    rw e (checks-step a.parity.now c.requires.1 a.index.now a.from k o.parity (c.requires.0.below k (omega arith)) o.invariant)

@@ -1,2 +1,0 @@
--- What the contracts of `iterative_sets` cite.
-pub mod Rounds
