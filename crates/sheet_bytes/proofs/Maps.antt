@@ -3,6 +3,7 @@
 --   places-are, places-few     == the map's places by the heading that was read, and that they are few
 --   map-there                  == the map's bytes by that heading are there
 --   row-there                  == so are the places of a block row
+--   from-none, from_more       == places counted: none, and one more
 --   from-few                   == no more are set than are counted
 --   from_row, from_first       == a block row counted, and the first one
 -- Assumes nothing.
@@ -10,8 +11,10 @@ use mathlib.Core.Path.{◌≡◌, refl, sym, ap, ap₂, ◌∙◌}
 use mathlib.Core.List.{List}
 use Prim.Native.Nat.{ℕ, ◌+◌, ◌*◌, ◌≤◌, ◌<◌}
 use native.Mathlib.Nat.{mul-le-mul, zero-mul, suc-mul}
+use native.Mathlib.Numerals.{add-one}
 use native.Mathlib.Omega.{arith}
 use lib.ListN.{length}
+use Rattle.counting.specs.Paper.Sum.{sum_below}
 use Rattle.counting.proofs.Sums.{sum_bound}
 use Rattle.packed_word.specs.Paper.Packed.{bytes_for}
 use Rattle.packed_word.proofs.Packed.{bit-bit}
@@ -49,6 +52,16 @@ module _ {bs : List ℕ} {h : Heading} (d : Headed bs h) where
 -- ---- places counted
 
 module _ (bs : List ℕ) where
+  -- no place is counted yet
+  pub from-none : (from : ℕ) → 0 ≡ set_from bs from 0
+  unfolding set_from sum_below
+  from-none from = refl
+
+  -- one place more
+  pub from_more : (from c found x : ℕ) → found ≡ set_from bs from c → x ≡ map_bit bs (from + c) → found + x ≡ set_from bs from (c + 1)
+  unfolding set_from sum_below
+  from_more from c found x h e = rw (add-one c) (ap₂ ◌+◌ h e)
+
   -- a place of the map is 0 or 1
   pub map-small : (p : ℕ) → map_bit bs p ≤ 1
   unfolding map_bit

@@ -53,7 +53,12 @@ pub fn set_from(bytes: &[u8], from: usize, count: usize) -> usize
     requires { (48 + (from + count) ≤ 8 * length bytes.now) × (from + count ≤ 8589934592) }
     ensures { result ≡ set_from bytes.now from count }
 {
-    (from..from + count).map(|p| map_bit(bytes, p)).sum()
+    // A `for`, as a sum over the mapped places is slower here.
+    let mut found = 0;
+    for c in 0..count {
+        found += map_bit(bytes, from + c);
+    }
+    found
 }
 
 // How many bytes the map takes. Only this repository's crates call it, with numbers of 16 bits.
