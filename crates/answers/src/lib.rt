@@ -6,7 +6,7 @@
 #![tactic(auto)]
 
 ghost use Rattle.std.specs.Prelude.{◌≡◌};
-ghost use Rattle.answers.specs.Paper.Answers.{accepted, refuse_if, wrong_lengths, report, outcome_by};
+ghost use Rattle.answers.specs.Paper.Answers.{accepted, refuse_if, and_then, wrong_lengths, report, outcome_by};
 ghost use Rattle.answers.specs.Paper.Enums.{refusal_number, refusal_place, outcome_of, verdict_of, report_of};
 
 // Why a call is refused. A refusal that has a place carries it.
@@ -110,6 +110,13 @@ pub fn refused_when(test: bool, f: Refusal) -> Result<(), Refusal>
         return Err(f);
     }
     Ok(())
+}
+
+// What is asked first, then what is asked next, for a caller that has both answers; one that asks the next only then writes `?`.
+pub fn and_then(first: Result<(), Refusal>, next: Result<(), Refusal>) -> Result<(), Refusal>
+    ensures { verdict_of result ≡ and_then (verdict_of first) (verdict_of next) }
+{
+    first.and(next)
 }
 
 // Refusal 7: what is lent has not the length wanted, or one of two written buffers is shorter than needed.

@@ -2,7 +2,7 @@
 // Rests on `iterative_levels`, `iterative_tally`, `majority_votes` and `matrix_degrees`. Document 01: "Iterative voting", steps 2 to 6; document 02: card 2.
 #![tactic(auto)]
 
-ghost use Rattle.std.proofs.Common.{sym, ◌∙◌};
+ghost use Rattle.std.proofs.Common.{refl, sym, ◌∙◌};
 ghost use Rattle.std.specs.Prelude.{◌≡◌, ◌≤◌, ◌<◌, ℕ, List, length, replicate};
 ghost use Rattle.counting.specs.Paper.Lists.{listed, over};
 ghost use Rattle.counting.specs.Places.{at};
@@ -25,6 +25,9 @@ pub trait Tally {
     // what is kept from word to word is that of this word and its votes
     ghost keeps: { Self → Matrix → (ℕ → ℕ) → List ℕ → Type 0 };
 
+    // what it reads by is the same before and after; by the index, the parities past the checks are too
+    ghost stays: { Matrix → Self → Self → Type 0 };
+
     // The votes of the word `before` become those of the word `bits`; says how many checks fail.
     fn retally(
         &mut self,
@@ -36,7 +39,12 @@ pub trait Tally {
     ) -> u16
         requires accepted { Accepted (matrix_of shape list.now) }
         requires word { Word (matrix_of shape list.now) (at before.now) × Word (matrix_of shape list.now) (at bits.now) × keeps self.old (matrix_of shape list.now) (at before.now) votes.old }
-        ensures { keeps self.new (matrix_of shape list.now) (at bits.now) votes.new × Tallied (matrix_of shape list.now) (at bits.now) votes.new result };
+        ensures { keeps self.new (matrix_of shape list.now) (at bits.now) votes.new × Tallied (matrix_of shape list.now) (at bits.now) votes.new result × stays (matrix_of shape list.now) self.old self.new };
+
+    // over no word, and over one word after another
+    ghost stays_so: { (w : Self) (H : Matrix) → stays H w w };
+
+    ghost stays_on: { (u v w : Self) (H : Matrix) → stays H u v → stays H v w → stays H u w };
 
     // only the bits below n count, so that it is that of a copy too
     ghost of_copy: { (w : Self) (H : Matrix) (a z : ℕ → ℕ) (v : List ℕ) → Accepted H → ((j : ℕ) → j < H.n → a j ≡ z j) → keeps w H z v → keeps w H a v };
@@ -51,6 +59,8 @@ pub struct ByIndex<'a> {
 
 impl<'a> Tally for ByIndex<'a> {
     ghost keeps = { λ w H z v. (w.index.now ≡ index_of H) × Parities H z w.parity };
+
+    ghost stays = { λ H v w. (w.index.now ≡ v.index.now) × ((i : ℕ) → H.m ≤ i → at w.parity i ≡ at v.parity i) };
 
     fn retally(
         &mut self,
@@ -70,6 +80,10 @@ impl<'a> Tally for ByIndex<'a> {
             votes,
         )
     }
+
+    ghost stays_so = { λ w H. (refl, λ i h. refl) };
+
+    ghost stays_on = { λ u v w H s t. (t.0 ∙ s.0, λ i h. t.1 i h ∙ s.1 i h) };
 
     ghost of_copy = { λ w H a z v r e k. (k.0, record { bits = k.1.bits; each = λ i h. k.1.each i h ∙ sym (fails-cong H r.rows a z e i h) }) };
 }
@@ -98,7 +112,7 @@ fn round<T: Tally>(
 ) -> u16
     requires run_lent { RunLent (matrix_of shape list.now) middle bits.old levels.old × Weighed (matrix_of shape list.now) weights.now }
     requires kept { T.keeps way.old (matrix_of shape list.now) (at bits.old) votes.old × (length before.old ≡ 1023) }
-    ensures { Rounded (matrix_of shape list.now) middle votes.old bits.old levels.old bits.new levels.new votes.new result × T.keeps way.new (matrix_of shape list.now) (at bits.new) votes.new × (length before.new ≡ 1023) }
+    ensures { Rounded (matrix_of shape list.now) middle votes.old bits.old levels.old bits.new levels.new votes.new result × T.keeps way.new (matrix_of shape list.now) (at bits.new) votes.new × T.stays (matrix_of shape list.now) way.old way.new × (length before.new ≡ 1023) }
 {
     let n = shape.n as usize;
     let ceiling = 2 * middle;
@@ -122,7 +136,7 @@ pub fn rounds_on<T: Tally>(
 ) -> Stop
     requires run_lent { RunLent (matrix_of shape list.now) middle bits.old levels.old × Weighed (matrix_of shape list.now) weights.now }
     requires kept { T.keeps way.old (matrix_of shape list.now) (at (replicate 1023 0)) (replicate 1023 0) }
-    ensures { RunLeft (matrix_of shape list.now) middle limit bits.old levels.old bits.new levels.new result.rounds result.failing }
+    ensures { RunLeft (matrix_of shape list.now) middle limit bits.old levels.old bits.new levels.new result.rounds result.failing × T.stays (matrix_of shape list.now) way.old way.new }
 {
     let mut before = [0u8; 1023];
     let mut votes = [0u8; 1023];

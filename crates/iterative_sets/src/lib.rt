@@ -4,7 +4,7 @@
 // Document 01: "Iterative voting", steps 2 to 6; document 02: card 2.
 #![tactic(auto)]
 
-ghost use Rattle.std.proofs.Common.{sym, ◌∙◌};
+ghost use Rattle.std.proofs.Common.{refl, sym, ◌∙◌};
 ghost use Rattle.std.specs.Prelude.{◌≡◌, length};
 ghost use Rattle.matrix.specs.Paper.Shapes.{matrix_of};
 ghost use Rattle.matrix.proofs.Rows.{fails-cong};
@@ -30,6 +30,8 @@ pub struct BySets<'a> {
 impl<'a> Tally for BySets<'a> {
     ghost keeps = { λ w H z v. ColumnSets H w.columns.now × RowSets H w.supports.now × SetParities H z w.parity × SetVotes H w.parity v × (length w.places ≡ 1023) };
 
+    ghost stays = { λ H v w. (w.columns.now ≡ v.columns.now) × (w.supports.now ≡ v.supports.now) };
+
     // The columns of the flipped bits turn the set over, and its votes follow.
     fn retally(
         &mut self,
@@ -54,6 +56,10 @@ impl<'a> Tally for BySets<'a> {
             votes,
         )
     }
+
+    ghost stays_so = { λ w H. (refl, refl) };
+
+    ghost stays_on = { λ u v w H s t. (t.0 ∙ s.0, t.1 ∙ s.1) };
 
     ghost of_copy = { λ w H a z v r e k. (k.0, k.1, record { long = k.2.long; each = λ i h. k.2.each i h ∙ sym (fails-cong H r.rows a z e i h); past = k.2.past }, k.3, k.4) };
 }

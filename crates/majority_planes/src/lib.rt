@@ -135,7 +135,7 @@ fn count_pair(
 }
 
 // Counts the listed sets, eight times `eights` of them from a place on: in how many of them each place of their words is set.
-// Only this repository's crates call it, where no count is above 63.
+// The array of rows is lent whole, as in `majority_votes`. Only this repository's crates call it, where no count is above 63.
 pub fn count(sets: &[u64], rows: &[u16; 1023], from: usize, eights: usize, planes: &mut [u64; 96])
     requires { (from + 8 * eights ≤ 1023) × SetsAt sets.now rows.now (from + 8 * eights) × SixDigits sets.now rows.now from (8 * eights) × (length planes.old ≡ 96) }
     ensures { PlanesLaid sets.now rows.now from (8 * eights) planes.new }

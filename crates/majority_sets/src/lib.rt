@@ -2,7 +2,7 @@
 // Rests on `majority_planes`, `majority_bytes`, `majority_votes` and on the definitions of `matrix_rows`. Document 01: "Iterative voting", step 4.
 #![tactic(auto)]
 
-ghost use Rattle.std.specs.Prelude.{◌≡◌, ◌+◌, ◌*◌, ◌≤◌, length};
+ghost use Rattle.std.specs.Prelude.{◌≡◌, ◌+◌, ◌*◌, ◌≤◌, ◌||◌, ltb, length};
 ghost use Rattle.matrix.specs.Paper.PlainCheck.{Accepted};
 ghost use Rattle.matrix.specs.Paper.Shapes.{matrix_of};
 ghost use Rattle.matrix_rows.specs.Rows.{RowSets};
@@ -56,6 +56,13 @@ fn turn_eights<T: Turn>(
     turn_bytes::<T>(n, &bytes, votes);
 }
 
+// Whether so many rows of so many columns go one by one: few of them, or short ones. It is a matter of speed alone.
+fn one_by_one(rho: usize, count: usize) -> bool
+    ensures { result ≡ (ltb rho 24 || ltb count 32) }
+{
+    (rho < 24) | (count < 32)
+}
+
 // One turn at each column of each listed row. Which way is taken is a matter of speed alone.
 // Only this repository's crates call it, with the sets of an accepted matrix and rows of it.
 pub fn turn<T: Turn>(
@@ -71,7 +78,7 @@ pub fn turn<T: Turn>(
 {
     let n = shape.n as usize;
     let rho = shape.rho as usize;
-    if (rho < 24) | (count < 32) {
+    if one_by_one(rho, count) {
         majority_votes::turn_rows::<T>(list, rho, rows, count, votes);
         return;
     }
@@ -93,6 +100,11 @@ pub fn add(
     requires { Accepted (matrix_of shape list.now) × RowSets (matrix_of shape list.now) supports.now × VotesFew (matrix_of shape list.now) rows.now count × Addable (of_rows list.now shape.rho rows.now count) votes.old }
     ensures { More (of_rows list.now shape.rho rows.now count) votes.old votes.new }
 {
+    let rho = shape.rho as usize;
+    if one_by_one(rho, count) {
+        majority_votes::add_rows(list, rho, rows, count, votes);
+        return;
+    }
     turn::<Add>(shape, list, supports, rows, count, votes);
 }
 
@@ -109,5 +121,10 @@ pub fn take(
     requires { Accepted (matrix_of shape list.now) × RowSets (matrix_of shape list.now) supports.now × VotesFew (matrix_of shape list.now) rows.now count × Takeable (of_rows list.now shape.rho rows.now count) votes.old }
     ensures { Fewer (of_rows list.now shape.rho rows.now count) votes.old votes.new }
 {
+    let rho = shape.rho as usize;
+    if one_by_one(rho, count) {
+        majority_votes::take_rows(list, rho, rows, count, votes);
+        return;
+    }
     turn::<Take>(shape, list, supports, rows, count, votes);
 }

@@ -104,7 +104,8 @@ fn turn_row<T: Turn>(list: &[u16], from: usize, count: usize, votes: &mut [u8; 1
     turn_some::<T>(list, from + 8 * eights, count % 8, votes);
 }
 
-// One turn at each column of each listed row. Only this repository's crates call it, with rows of an accepted matrix.
+// One turn at each column of each listed row. The array of rows is lent whole, with their number beside it, as it is room for any number of them.
+// Only this repository's crates call it, with rows of an accepted matrix.
 pub fn turn_rows<T: Turn>(
     list: &[u16],
     rho: usize,

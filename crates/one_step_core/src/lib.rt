@@ -5,11 +5,11 @@
 
 ghost use Rattle.answers.specs.Paper.Enums.{report_of};
 ghost use Rattle.counting.specs.Places.{at};
-ghost use Rattle.std.specs.Prelude.{⊤};
+ghost use Rattle.std.specs.Prelude.{⊤, ◌≡◌};
+ghost use Rattle.counting.specs.Paper.Lists.{listed, over};
 ghost use Rattle.matrix.specs.Paper.Code.{Matrix, Word, weight};
 ghost use Rattle.matrix.specs.Paper.PlainCheck.{Accepted};
 ghost use Rattle.matrix.specs.Paper.Shapes.{matrix_of};
-ghost use Rattle.matrix.specs.Tallies.{Weighed};
 ghost use Rattle.majority_flips.specs.Flips.{VotedBits};
 ghost use Rattle.one_step_core.specs.Stepped.{Stepped, VoteLent, HandBackLent, HandedBack, Voted};
 
@@ -24,7 +24,7 @@ pub trait Weigh {
 
     fn weigh(&self, shape: Shape, list: &[u16], weights: &mut [u16; 1023])
         requires { Accepted (matrix_of shape list.now) × belongs self.now (matrix_of shape list.now) }
-        ensures { Weighed (matrix_of shape list.now) weights.new };
+        ensures { weights.new ≡ over (listed shape.n (weight (matrix_of shape list.now))) weights.old };
 }
 
 // How a word is voted on: by the rows of the matrix alone, or by an index too.
@@ -64,7 +64,6 @@ pub struct ByRows;
 impl Weigh for ByRows {
     ghost belongs = { λ w H. ⊤ };
 
-    #[tactic(auto, using(matrix_degrees::proofs::Degrees::weighed))]
     fn weigh(&self, shape: Shape, list: &[u16], weights: &mut [u16; 1023]) {
         matrix_degrees::weigh(shape, list, weights);
     }

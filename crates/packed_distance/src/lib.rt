@@ -17,12 +17,19 @@ fn eight(w: &[u8]) -> u64
     u64::from_le_bytes([w[0], w[1], w[2], w[3], w[4], w[5], w[6], w[7]])
 }
 
+// The ones of the difference of two words.
+fn ones_apart(x: u64, y: u64) -> u32
+    ensures { result ≡ ones (bit_xor x y) }
+{
+    (x ^ y).count_ones()
+}
+
 // At how many of their sixty-four places the eight bytes from byte q on differ.
 fn word_apart(a: &[u8], b: &[u8], q: usize) -> u64
     requires { (q + 8 ≤ length a.now) × (q + 8 ≤ length b.now) }
     ensures { result ≡ apart_in a.now b.now q 8 }
 {
-    u64::from((eight(&a[q..]) ^ eight(&b[q..])).count_ones())
+    u64::from(ones_apart(eight(&a[q..]), eight(&b[q..])))
 }
 
 // At how many places the first words, of eight bytes each, differ. There are few enough that 64 bits can count their places.

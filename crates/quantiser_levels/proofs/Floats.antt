@@ -1,5 +1,6 @@
 -- A finite float by its bit pattern: its sign, and its magnitude in units of 2 ^ -149.
---   finite-same     == the library's test of a finite float is the definition's
+--   both-tests      == a float above minus infinity is finite exactly where it is below infinity
+--   first-test      == a float that is not above minus infinity is not finite
 --   finite-no-nan   == a finite float is no NaN
 --   low-apart       == the sign and the magnitude of a pattern with exponent field 0
 --   high-apart      == those of a finite float's pattern with another exponent field
@@ -14,21 +15,30 @@ use native.Mathlib.Nat.{mul-div_cancel, mul-one, le_trans, le-div_iff_mul-le}
 use native.Mathlib.Omega.{arith}
 use lib.Dec.{T, leb, eqb, lit≤}
 use lib.IntN.{pos, negsuc}
-use lib.Ieee.{Float, nan, inf, fin, binary32, odd, of_fields, of_bits, is_nan, le}
+use lib.Ieee.{Float, nan, inf, fin, binary32, odd, of_fields, of_bits, is_nan, lt, le}
 use lib.Ieee.Fits.{down_pos, and_l, and_r}
 use lib.Ieee.Exact.{HasValue, odd_sign}
 use lib.Ieee.Positive.{positive, num, den, den_pos, own_value, positive-finite, between, values_of_le}
 use lib.Ieee.Scale.{finite}
-use Rattle.std.specs.Float.{float_is_finite}
 use Rattle.quantiser_levels.specs.Paper.Samples.{units_of, step_fits}
 use Rattle.quantiser_levels.specs.Scale.{Digits, Apart}
 
--- the library's test is the definition's
-pub finite-same : (x : Float) → float_is_finite x ≡ finite x
-unfolding float_is_finite
-finite-same nan = refl
-finite-same (inf s) = refl
-finite-same (fin s m e) = refl
+-- ---- the two tests of `is_finite`
+
+-- a float above minus infinity is finite exactly where it is below infinity
+pub both-tests : (x : Float) → lt (inf true) x ≡ true → lt x (inf false) ≡ finite x
+unfolding lt
+both-tests nan h = refl
+both-tests (inf true) h = sym h
+both-tests (inf false) h = refl
+both-tests (fin s m e) h = refl
+
+-- a float that is not above minus infinity is not finite
+pub first-test : (x : Float) → lt (inf true) x ≡ false → false ≡ finite x
+unfolding lt
+first-test nan h = refl
+first-test (inf s) h = refl
+first-test (fin s m e) h = sym h
 
 -- a finite float is no NaN
 pub finite-no-nan : (x : Float) → T (finite x) → T (not (is_nan x))

@@ -30,11 +30,13 @@ pub struct Scale {
     pub shift: u64,
 }
 
-// Whether a float is neither infinite nor a NaN.
+// Whether a float is neither infinite nor a NaN: a NaN fails every comparison. By two comparisons, as the library's own test subtracts:
+// at an infinite sample that raises the processor's flag for an invalid operation, for which a caller may have a trap.
 pub fn is_finite(x: f32) -> bool
     ensures { result ≡ finite x }
 {
-    x.is_finite()
+    let top = f32::from_bits(0x7f80_0000);
+    -top < x && x < top
 }
 
 // The hard bit comes from the sample and not from its level. Both zeros give 0.

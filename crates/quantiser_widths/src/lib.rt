@@ -41,7 +41,7 @@ pub fn widen(old: &[Old], levels: &mut [Cell]) -> Result<(), Refusal>
 fn is_too_far(r: Cell) -> bool
     ensures { result ≡ ltb most_old (nat_abs r) }
 {
-    127 < r.unsigned_abs()
+    r < -127 || 127 < r
 }
 
 // The place of the first level that does not lie within -127 to 127, if there is one.

@@ -48,7 +48,7 @@ pub struct Turn {
     pub answer: Result<Report, Refusal>,
 }
 
-// The state's number: 0 empty, 1 working, 2 decoded, 3 failed.
+// The state's number: 0 empty, 1 working, 2 decoded, 3 failed. The C interface's number, beside `state_of`, so that both are functions of one form.
 pub fn number_of(state: State) -> u16
     ensures { result ≡ state_number state }
 {

@@ -38,5 +38,6 @@ returns g c =
     let e = c.copy.ensures in (
       record { moved = weighed-moved H _ s.args.weights.now _ _ _ _ _ s.requires.run_lent.1 c.update.ensures; tallied = c.retally.ensures.1 },
       c.retally.ensures.0,
+      c.retally.ensures.2,
       over-long s.args.shape.n (at s.args.bits.now) s.args.before.now _ e (omega (arith, s.requires.run_lent.0.matrix.sizes.n_most, s.requires.kept.1)) ∙ s.requires.kept.1,
     )

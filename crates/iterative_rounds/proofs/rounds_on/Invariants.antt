@@ -10,4 +10,4 @@ use Rattle.iterative_rounds.proofs.rounds_on.Given as goal
 abbrev pub invariant-loop-k : goal.invariant-loop-k
 invariant-loop-k g l =
     Going (matrix_of l.shape l.list) l.middle l.limit l.initial.bits l.initial.levels l.bits l.levels l.votes l.failing l.k
-    × g.T.Tally.keeps l.way (matrix_of l.shape l.list) (at l.bits) l.votes × (length l.before ≡ 1023)
+    × g.T.Tally.keeps l.way (matrix_of l.shape l.list) (at l.bits) l.votes × g.T.Tally.stays (matrix_of l.shape l.list) l.initial.way l.way × (length l.before ≡ 1023)

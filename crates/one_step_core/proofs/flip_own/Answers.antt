@@ -1,7 +1,9 @@
 -- `one_step_core::flip_own`: by gamma where the sizes leave no room for unlike columns, else by the weights found.
+use lib.ListN.{replicate}
 use Rattle.matrix.specs.Paper.Code.{Matrix, Word}
 use Rattle.matrix.specs.Paper.Shapes.{matrix_of}
-use Rattle.one_step_core.proofs.Votes.{equal-voted}
+use Rattle.matrix_degrees.proofs.Degrees.{weighed}
+use Rattle.one_step_core.proofs.Votes.{equal-voted, weighed-voted}
 use Rattle.one_step_core.proofs.flip_own.Goals as goal
 
 pub flip_equal-requires : goal.flip_equal-requires
@@ -20,3 +22,11 @@ unfolding Word
 flip_all-requires g c =
     let s = c in
     (s.requires.0.sizes.n_most, s.requires.2)
+
+pub returns : goal.returns
+returns g c =
+    let s = c in
+    let H : Matrix = matrix_of s.args.shape s.args.list.now in
+    let w = c.weigh in
+    weighed-voted H w.new.weights (weighed H w.new.weights (replicate 1023 0) w.ensures) s.args.votes.now s.args.bits.now
+    c.flip_all.new.bits c.flip_all.ensures

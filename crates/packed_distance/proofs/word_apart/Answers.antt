@@ -18,6 +18,7 @@ returns c =
     let x = c.eight.ensures in
     let y = c.eight-2.ensures in
     c.from.ensures
+    ∙ c.ones_apart.ensures
     ∙ ap₂ (λ (m n : ℕ). ones (bit_xor m n)) x.value y.value
     ∙ word-apart (take (length a - q) (drop q a)) (take (length b - q) (drop q b)) 0 8 x.bytes y.bytes
     ∙ apart-part a b q 8 (length a - q) (length b - q) (omega (arith, s.requires.0)) (omega (arith, s.requires.1))

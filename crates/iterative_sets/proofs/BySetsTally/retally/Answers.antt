@@ -1,5 +1,6 @@
 -- `retally` of `iterative_sets::BySets` meets its contract: the set of failing checks is turned over at the flipped bits' columns, and its votes follow.
 -- Assumes nothing.
+use mathlib.Core.Path.{refl}
 use Rattle.counting.specs.Places.{at}
 use Rattle.matrix.specs.Paper.Code.{Matrix}
 use Rattle.matrix.specs.Paper.Shapes.{matrix_of}
@@ -38,4 +39,4 @@ returns c =
     turned-sets (lent) s.requires.accepted s.args.self.now.columns.now s.requires.word.2.0 (at s.args.before.now) (at s.args.bits.now) s.requires.word.0 s.requires.word.1
     f.new.places f.result f.ensures.places s.args.self.now.parity c.turn.new.parity s.requires.word.2.2 c.turn.ensures in
     let v = c.revote.ensures in
-    ((c.requires.word.2.0, c.requires.word.2.1, turned, v.0, v.2), set-tallied (lent) _ _ _ _ turned v.0 v.1)
+    ((c.requires.word.2.0, c.requires.word.2.1, turned, v.0, v.2), set-tallied (lent) _ _ _ _ turned v.0 v.1, (refl, refl))
