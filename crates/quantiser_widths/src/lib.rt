@@ -73,7 +73,9 @@ pub fn narrow(levels: &[Cell], old: &mut [Old]) -> Result<(), Refusal>
     if old.len() < n {
         return Err(Refusal::Buffer);
     }
-    if let Some(place) = first_too_far(levels) {
+    // Compared, and not matched on: else the loop counts by the refusal's own number, with two instructions more for each level.
+    let place = first_too_far(levels).unwrap_or(n);
+    if place < n {
         return Err(Refusal::Level(place as u16));
     }
     narrow_into(levels, old);
