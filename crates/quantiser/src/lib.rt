@@ -66,7 +66,7 @@ pub fn quantise(
     if too_short(n, levels.len(), word.len()) {
         return Err(Refusal::Buffer);
     }
-    // Compared, and not matched on: else the loop counts by the refusal's own number, with two instructions more for each sample.
+    // Compared, and not matched on: else the compiler's loop counts in the number that the C call answers, two instructions more for each sample.
     let place = first_not_finite(samples).unwrap_or(n);
     if place < n {
         return Err(Refusal::Sample(place as u16));

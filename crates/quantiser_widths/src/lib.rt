@@ -73,7 +73,7 @@ pub fn narrow(levels: &[Cell], old: &mut [Old]) -> Result<(), Refusal>
     if old.len() < n {
         return Err(Refusal::Buffer);
     }
-    // Compared, and not matched on: else the loop counts by the refusal's own number, with two instructions more for each level.
+    // Compared, and not matched on: else the compiler's loop counts in the number that the C call answers, two instructions more for each level.
     let place = first_too_far(levels).unwrap_or(n);
     if place < n {
         return Err(Refusal::Level(place as u16));
